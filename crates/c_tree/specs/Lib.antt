@@ -1,0 +1,6 @@
+pub mod Expressions
+pub mod Bare
+pub mod Lined
+pub mod Values
+pub mod Numbering
+pub mod FirstForm
