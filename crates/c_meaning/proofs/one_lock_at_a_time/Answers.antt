@@ -1,0 +1,5 @@
+use Rattle.c_meaning.proofs.Kept.{never_stuck}
+use Rattle.c_meaning.proofs.one_lock_at_a_time.Goals as goal
+
+pub returns : goal.returns
+returns c = never_stuck

@@ -1,0 +1,41 @@
+//! What a program means: its states, what an event does in one, and which threads block each other.
+#![tactic(auto)]
+
+ghost use Rattle.std.specs.Prelude.{◌≡◌, true, None};
+ghost use Rattle.c_tree.specs.Lined as lined;
+ghost use Rattle.c_tree.specs.Lined.{bare_program};
+ghost use Rattle.c_tree.specs.FirstForm.{is_first_form, first_nested};
+ghost use Rattle.c_meaning.specs.Stuck.{NeverStuck};
+
+mod samples;
+
+pub use samples::{
+    crossing_locks_get_stuck, threads_take_turns, unlocking_for_another_is_undefined,
+};
+
+/// What happens to a thread.
+#[derive(Clone, Copy, Debug, PartialEq, Eq)]
+pub enum EventKind {
+    /// It does its next act.
+    Go,
+    /// It signals, and this thread is the one that is woken.
+    Choose(u32),
+    /// It is woken without a signal, as POSIX allows.
+    Wake,
+}
+
+/// One atomic step of a run: what happens, and to which thread.
+#[derive(Clone, Copy, Debug, PartialEq, Eq)]
+pub struct Event {
+    /// The thread: 0 is main, and the others are numbered from 1 in the order of their create
+    /// statements.
+    pub thread: u32,
+    /// What happens to it.
+    pub kind: EventKind,
+}
+
+/// No state that a program of the first form reaches, on any input and by any schedule, has a
+/// stuck set, where no lock of it stands below another that isn't unlocked since.
+pub fn one_lock_at_a_time()
+    ensures { (p : lined.Program) → is_first_form (bare_program p) ≡ true → first_nested p ≡ None → NeverStuck (bare_program p) }
+{}
