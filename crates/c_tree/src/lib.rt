@@ -9,6 +9,8 @@ mod copies;
 mod expr;
 mod program;
 mod stmt;
+#[cfg(test)]
+mod tests;
 
 pub use copies::{Copies, copy_exprs, copy_items, copy_name, copy_stmts};
 pub use expr::{Expr, Exprs, Name, Names, Op, Place};
