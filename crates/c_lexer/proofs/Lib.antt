@@ -1,0 +1,10 @@
+pub mod Pieces
+pub mod WordPieces
+pub mod SignPieces
+pub mod ReadingPieces
+pub mod DirectivePieces
+pub mod PlaceSteps
+pub mod Unique
+pub mod Steps
+pub mod DefinedNames
+pub mod TextLaws

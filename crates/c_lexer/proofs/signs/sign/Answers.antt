@@ -1,0 +1,32 @@
+use Rattle.std.proofs.Common.{arith, ◌∙◌, sym, get_or, refl}
+use Rattle.c_lexer.specs.Pieces.{Kind, Piece}
+use Rattle.c_lexer.specs.Signs.{single, one_byte}
+use Rattle.c_lexer.proofs.SignPieces.{double_cut, single_cut}
+use Rattle.c_lexer.proofs.signs.sign.Goals as goal
+
+pub returns-then-text-le1 : goal.returns-then-text-le1
+returns-then-text-le1 c = λ first place.
+    let text = c.args.text.now in
+    record {
+      piece = one_byte (single (get_or text 0 0));
+      begins = single_cut first text c.requires.some c.requires.by (λ lt. absurd (omega arith));
+      shows = c.one_byte.ensures place text;
+    }
+
+pub returns-in-Some : goal.returns-in-Some
+returns-in-Some c = λ first place.
+    let text = c.args.text.now in
+    record {
+      piece = Piece.token (Kind.sign c.in-Some.sign);
+      begins = double_cut first text c.in-Some.sign (omega arith) c.requires.by (sym c.in-Some.ensures);
+      shows = refl;
+    }
+
+pub returns-in-None : goal.returns-in-None
+returns-in-None c = λ first place.
+    let text = c.args.text.now in
+    record {
+      piece = one_byte (single (get_or text 0 0));
+      begins = single_cut first text c.requires.some c.requires.by (λ lt. sym c.double.ensures ∙ c.in-None.is);
+      shows = c.one_byte-in-None.ensures place text;
+    }

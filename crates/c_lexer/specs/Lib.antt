@@ -1,0 +1,10 @@
+pub mod Classes
+pub mod Pieces
+pub mod Words
+pub mod Signs
+pub mod Readings
+pub mod Directives
+pub mod Lexeme
+pub mod Tokens
+pub mod Cuts
+pub mod Laws
