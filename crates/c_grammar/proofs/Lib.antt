@@ -1,0 +1,6 @@
+mod Beginnings
+mod SpelledSamples
+mod NotSpelledSamples
+mod Groups
+mod OpenFronts
+mod DeepSamples

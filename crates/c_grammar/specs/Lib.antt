@@ -1,0 +1,14 @@
+pub mod Items
+pub mod Levels
+pub mod Commas
+pub mod Expressions
+pub mod Simple
+pub mod Statements
+pub mod Declarations
+pub mod Programs
+pub mod Samples
+pub mod Spelled
+pub mod Heads
+pub mod NotSpelled
+pub mod Fronts
+pub mod Depth

@@ -1,0 +1,5 @@
+pub mod Includes
+pub mod Pieces
+pub mod Productions
+pub mod Reading
+pub mod WordKinds

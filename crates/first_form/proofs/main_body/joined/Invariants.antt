@@ -1,0 +1,8 @@
+use Rattle.std.proofs.Common.{◌≡◌, ◌++◌, drop}
+use Rattle.c_tree.specs.FirstForm.{joined}
+use Rattle.first_form.specs.Shown.{shown_body}
+use Rattle.first_form.proofs.main_body.joined.Given as goal
+
+-- the indices so far, and those of what is left
+abbrev pub invariant-loop-s : goal.invariant-loop-s
+invariant-loop-s l = l.indices.items ++ joined (shown_body (drop l.s-index l.body)) ≡ joined (shown_body l.body)

@@ -1,0 +1,4 @@
+pub mod Shown
+pub mod Sets
+pub mod Bodies
+pub mod Locks

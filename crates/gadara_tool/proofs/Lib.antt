@@ -1,0 +1,5 @@
+mod Steps
+mod Told
+mod Derived
+mod Causes
+mod Instrumented
