@@ -1,0 +1,10 @@
+pub mod Rooms
+pub mod Says
+pub mod Viable
+pub mod Loops
+pub mod Sound
+pub mod Operators
+pub mod Exact
+pub mod Sums
+pub mod Promise
+pub mod Turns
