@@ -1,0 +1,11 @@
+pub mod Chains
+pub mod Texts
+pub mod Loops
+pub mod ActTexts
+pub mod BlockTexts
+pub mod Shown
+pub mod ProgramTexts
+pub mod Parts
+pub mod ExpressionParts
+pub mod StatementParts
+pub mod ProgramParts

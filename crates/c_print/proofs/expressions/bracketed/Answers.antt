@@ -1,0 +1,6 @@
+use Rattle.std.proofs.Common.{append_assoc}
+use Rattle.c_layout.proofs.Readings.{text_append}
+use Rattle.c_print.proofs.expressions.bracketed.Goals as goal
+
+pub returns : goal.returns
+returns c = rw (c.in_ok-put-2.ensures, c.in_ok-expression.ensures, c.in_ok-put.ensures) (simp (append_assoc, text_append))
