@@ -1,0 +1,4 @@
+mod Shorter
+mod Turns
+mod Spelled
+mod Sounds
