@@ -2,3 +2,5 @@ mod Shorter
 mod Turns
 mod Spelled
 mod Sounds
+mod Lists
+mod ListSounds

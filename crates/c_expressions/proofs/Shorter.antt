@@ -104,7 +104,7 @@ module _ {Token : Type 0} (v : Sight Token) where
   unfolding int_cast
   less_int_cast = less_must _ (less_must _ (less_must _ (less_must _ less_cast_name)))
 
-  less_close_by : {A : Type 0} (sign : Sign) (fits : Bool) {p : Parser Token A} → Sound p Less → (u : Token) → SoundMove Less (close_by v sign fits p u)
+  pub less_close_by : {A : Type 0} (sign : Sign) (fits : Bool) {p : Parser Token A} → Sound p Less → (u : Token) → SoundMove Less (close_by v sign fits p u)
   less_close_by sign fits {p = p} x u = go (is v sign u)
     where
       go : (b : Bool) → SoundMove Less (cond b (fitting fits p) Stop)

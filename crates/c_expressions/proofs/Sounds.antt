@@ -3,11 +3,11 @@ use Rattle.std.proofs.Common.{◌≡◌, ℕ, zero, suc, ◌-◌, Bool, true, fa
 use Rattle.c_lexer.specs.declared.token.Sign.{Sign}
 use Rattle.c_lexer.specs.declared.token.Sign.TheVariants as s
 use Rattle.c_tree.specs.declared.expr.Op.{Op}
-use Rattle.c_tree.specs.Expressions.{Expr}
+use Rattle.c_tree.specs.Expressions.{Expr, Place}
 use Rattle.c_grammar.specs.Items.{Item, at, sign, name_of}
 use Rattle.c_grammar.specs.Levels.{Tall}
 use Rattle.c_grammar.specs.Expressions as g
-use Rattle.c_grammar.specs.Expressions.{loosest, joined, SpellsPrimary, SpellsUnary, SpellsExpression}
+use Rattle.c_grammar.specs.Expressions.{loosest, joined, SpellsPrimary, SpellsUnary, SpellsExpression, SpellsPlace, SpellsAddress}
 use Rattle.parse_laws.specs.Parser.{Parser, ◌>>=◌, pure, Stop, Deep, Go, must, deeper}
 use Rattle.parse_laws.specs.Operators.{operate_by, operate, climb, chain}
 use Rattle.parse_laws.proofs.Rooms.{by_room}
@@ -16,7 +16,7 @@ use Rattle.parse_laws.proofs.Sound.{Sound, SoundMove, stop_sound, deep_sound, go
 use Rattle.c_expressions.specs.declared.token.Inner.{Inner}
 use Rattle.c_expressions.specs.declared.token.Inner.TheVariants as i
 use Rattle.c_expressions.specs.Words.{Head, head, inner}
-use Rattle.c_expressions.specs.Parsers.{Sight, what_at, seen, is, go_named, named, fitting, fits, close, cast_name, int_cast, is_cast_word, is_cast_inner, pointer_cast, pointer, pointer_first, opened_by, opened, closed, expression_in, may_open, indexed, name_operand, element, operand_by, operand, expressions_of, operator_at, lower_in, argument_of}
+use Rattle.c_expressions.specs.Parsers.{Sight, what_at, seen, is, go_named, named, fitting, fits, close, cast_name, int_cast, is_cast_word, is_cast_inner, pointer_cast, pointer, pointer_first, opened_by, opened, closed, expression_in, may_open, indexed, name_operand, element, operand_by, operand, expressions_of, operator_at, lower_in, argument_of, expression, member, place_behind, place, address}
 use Rattle.c_expressions.proofs.Spelled as spelled
 
 module _ {Token : Type 0} (v : Sight Token) where
@@ -43,7 +43,7 @@ module _ {Token : Type 0} (v : Sight Token) where
         go (Some n) h = go_sound (h n refl)
 
   module _ {A : Type 0} {R : List Token → List Token → A → Type 0} where
-    fitting_sound : {p : Parser Token A} (b : Bool) → Sound p R → SoundMove R (fitting b p)
+    pub fitting_sound : {p : Parser Token A} (b : Bool) → Sound p R → SoundMove R (fitting b p)
     fitting_sound true x = go_sound x
     fitting_sound false x = deep_sound
 
@@ -196,3 +196,35 @@ module _ {Token : Type 0} (v : Sight Token) where
       whole r h k =
           let x = bind_sound {S = E k} (operand_sound r (lower_in v r) (below_sound r h)) (climb_sound r k (below_sound r h)) in
           record { spelled = λ ts a rest e. x.spelled ts a rest (sym (ops.chain_is (expressions_of v) r k ts) ∙ e) }
+
+  -- a level below a room
+  lower_sound : (r m : ℕ) → r ≡ suc m → (k : ℕ) → Sound (lower_in v r k) (E k)
+  lower_sound r m e k = below_sound r (λ n d j. chain_sound n j) m e k
+
+  -- an expression of a statement
+  pub expression_sound : (r : ℕ) → Sound (expression v r) (E loosest)
+  expression_sound r = expression_in_sound r (lower_in v r) (lower_sound r)
+
+  -- ---- places
+
+  abbrev pub P : List Token → List Token → Tall Place → Type 0
+  P ts rest p = SpellsPlace (items ts) (items rest) p
+
+  pub place_behind_sound : (r : ℕ) (u : Token) (n : List ℕ) → name_of (seen v u) ≡ Some n → Sound (place_behind v r n) (λ mid rest p. P (u ∷ mid) rest p)
+  place_behind_sound r u n d = commit_sound (λ t. go t (is v s.LeftBracket t) refl) (pure_sound (λ rest. spelled.scalar_spelled (v.item u) (items rest) n d))
+    where
+      go : (t : Token) (b : Bool) → is v s.LeftBracket t ≡ b → SoundMove (λ mid rest p. P (u ∷ t ∷ mid) rest p) (cond b (deeper (λ _. indexed v r (lower_in v r) (member n)) r) Stop)
+      go t false q = stop_sound
+      go t true q = deeper_sound r (λ m e.
+          bind_sound {R = λ ts rest a. P (u ∷ t ∷ ts) rest (member n a)}
+          (bind_sound (lower_sound r m e loosest) (λ a. close_sound s.RightBracket (fits r a.levels) (λ w q2. pure_sound (λ rest ts y. spelled.member_spelled (v.item u) (v.item t) (v.item w) (items ts) (items rest) n a d q q2 y))))
+          (λ a. pure_sound (λ rest ts y. y)))
+
+  -- every place that is read is spelled
+  pub place_sound : (r : ℕ) → Sound (place v r) P
+  unfolding place
+  place_sound r = commit_sound (λ u. named_sound P u (λ n e. place_behind_sound r u n e)) refuse_sound
+
+  pub address_sound : (r : ℕ) → Sound (address v r) (λ ts rest p. SpellsAddress (items ts) (items rest) p)
+  unfolding address
+  address_sound r = token_sound (λ u e. sound_map (λ ts rest p y. spelled.address_spelled (v.item u) (items ts) (items rest) p e y) (place_sound r))

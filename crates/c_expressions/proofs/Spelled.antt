@@ -7,15 +7,15 @@ use Rattle.c_lexer.specs.declared.token.Sign.{Sign}
 use Rattle.c_lexer.specs.declared.token.Sign.TheVariants as s
 use Rattle.c_tree.specs.declared.expr.Op.{Op}
 use Rattle.c_tree.specs.Expressions as tree
-use Rattle.c_tree.specs.Expressions.{Expr}
+use Rattle.c_tree.specs.Expressions.{Expr, Place}
 use Rattle.c_grammar.specs.declared.words.FixedWord.TheVariants as w
 use Rattle.c_grammar.specs.Items.{What, Item, at, sign, fixed, name_of, spelling}
 use Rattle.c_grammar.specs.Levels.{Tall, over}
 use Rattle.c_grammar.specs.Expressions as g
-use Rattle.c_grammar.specs.Expressions.{operator, looseness, loosest, joined, SpellsCast, SpellsPrimary, SpellsUnary, SpellsExpression}
+use Rattle.c_grammar.specs.Expressions.{operator, looseness, loosest, joined, SpellsCast, SpellsPrimary, SpellsUnary, SpellsExpression, SpellsPlace, SpellsAddress}
 use Rattle.c_expressions.specs.declared.token.Inner.TheVariants as i
 use Rattle.c_expressions.specs.Words.{same_sign, is_sign, Head, head, by_name, inner}
-use Rattle.c_expressions.specs.Parsers.{what_at, is_cast_inner, operator_of, if_loose, argument_of, negation, opposite, wrapped, element, pointer_name}
+use Rattle.c_expressions.specs.Parsers.{what_at, is_cast_inner, operator_of, if_loose, argument_of, negation, opposite, wrapped, element, pointer_name, scalar, member}
 
 sign_is : (a b : Sign) → same_sign a b ≡ true → a ≡ b
 unfolding same_sign
@@ -156,3 +156,16 @@ pub binary_spelled : (k : ℕ) (t : Item) (ts mid rest : List Item) (a b : Tall 
     → SpellsExpression (suc k) ts (t ∷ mid) a → SpellsExpression k mid rest b → SpellsExpression (suc k) ts rest (joined o a b)
 binary_spelled k (at l (What.Sign x)) ts mid rest a b o e d f = let p = loose_is k (operator x) o e in g.binary d p.0 p.1 f
 binary_spelled k (at l _) ts mid rest a b o e d f = absurd cc
+
+-- ---- places
+
+pub scalar_spelled : (t : Item) (rest : List Item) (n : List ℕ) → name_of (what_at t) ≡ Some n → SpellsPlace (t ∷ rest) rest (scalar n)
+scalar_spelled (at l a) rest n e = g.scalar e
+
+pub member_spelled : (t1 t2 t3 : Item) (ts rest : List Item) (n : List ℕ) (e : Tall Expr) → name_of (what_at t1) ≡ Some n → is_sign s.LeftBracket (what_at t2) ≡ true → is_sign s.RightBracket (what_at t3) ≡ true
+    → SpellsExpression loosest ts (t3 ∷ rest) e → SpellsPlace (t1 ∷ t2 ∷ ts) rest (member n e)
+member_spelled (at l1 a1) (at l2 a2) (at l3 a3) ts rest n e e1 e2 e3 d =
+    rw (is_sign_only s.LeftBracket a2 e2) (g.member e1 (subst (λ (x : What). SpellsExpression loosest ts (at l3 x ∷ rest) e) (is_sign_only s.RightBracket a3 e3) d))
+
+pub address_spelled : (t : Item) (ts rest : List Item) (p : Tall Place) → is_sign s.Ampersand (what_at t) ≡ true → SpellsPlace ts rest p → SpellsAddress (t ∷ ts) rest p
+address_spelled (at l a) ts rest p e d = rw (is_sign_only s.Ampersand a e) (g.address d)

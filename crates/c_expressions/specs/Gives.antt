@@ -1,5 +1,5 @@
 -- What the functions of this crate ensure: what they answer is what a parser over their tokens reads.
-use Rattle.std.specs.Prelude.{◌≡◌, List, Result, Ok, Err}
+use Rattle.std.specs.Prelude.{◌≡◌, List, map, Result, Ok, Err}
 use denote.Ref.{Bor}
 use Rattle.c_tree.specs.declared.expr.Expr as declared
 use Rattle.c_tree.specs.declared.expr.Place as declared_place
@@ -30,8 +30,16 @@ Shows view (Err e) o = Refuses e o
 abbrev pub GivesExpression : Result (shown.Tall declared.Expr × Bor (List Marked)) (Refusal Marked) → Outcome Marked (Tall Expr) → Type 0
 GivesExpression result o = Shows (tall_of expr_of) result o
 
-abbrev pub GivesExpressions : Result (shown.Tall (List declared.Expr) × Bor (List Marked)) (Refusal Marked) → Outcome Marked (Tall Exprs) → Type 0
-GivesExpressions result o = Shows (tall_of exprs_of) result o
+-- expressions in their order
+abbrev pub list_of : List declared.Expr → List Expr
+list_of es = map expr_of es
+
+abbrev pub GivesList : Result (shown.Tall (List declared.Expr) × Bor (List Marked)) (Refusal Marked) → Outcome Marked (Tall (List Expr)) → Type 0
+GivesList result o = Shows (tall_of list_of) result o
+
+-- the same, as the arguments of a call
+abbrev pub GivesArguments : Result (shown.Tall (List declared.Expr) × Bor (List Marked)) (Refusal Marked) → Outcome Marked (Tall Exprs) → Type 0
+GivesArguments result o = Shows (tall_of exprs_of) result o
 
 abbrev pub GivesPlace : Result (shown.Tall declared_place.Place × Bor (List Marked)) (Refusal Marked) → Outcome Marked (Tall Place) → Type 0
 GivesPlace result o = Shows (tall_of place_of) result o

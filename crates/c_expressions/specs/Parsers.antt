@@ -245,9 +245,13 @@ one_expression e = tall (e.tree ∷ []) e.levels
 abbrev pub with_expression : Tall (List Expr) → Tall Expr → Tall (List Expr)
 with_expression all e = tall (all.tree ++ e.tree ∷ []) (max all.levels e.levels)
 
+-- one more expression behind others
+abbrev pub added : {Token : Type 0} → Sight Token → ℕ → Tall (List Expr) → Parser Token (Tall (List Expr))
+added v r all = expression v r >>= λ e. pure (with_expression all e)
+
 -- a comma behind expressions that fit or don't, and one more
 abbrev pub comma_by : {Token : Type 0} → Sight Token → ℕ → Tall (List Expr) → Token → Move Token (Tall (List Expr))
-comma_by v r all u = close_by v s.Comma (fits r all.levels) (expression v r >>= λ e. pure (with_expression all e)) u
+comma_by v r all u = close_by v s.Comma (fits r all.levels) (added v r all) u
 
 abbrev pub more_expressions : {Token : Type 0} → Sight Token → ℕ → Tall (List Expr) → Parser Token (Tall (List Expr))
 more_expressions v r all = loop (comma_by v r) all
@@ -262,10 +266,13 @@ as_arguments all = tall (listed all.tree) all.levels
 abbrev pub no_arguments : Tall Exprs
 no_arguments = tall tree.Nil 0
 
+-- arguments, and the `)` behind them
+abbrev pub some_arguments : {Token : Type 0} → Sight Token → ℕ → Parser Token (Tall Exprs)
+some_arguments v r = expressions v r >>= λ all. close v s.RightParenthesis (fits r all.levels) (pure (as_arguments all))
+
 -- behind the `(` of a call
 unfoldable pub arguments : {Token : Type 0} → Sight Token → ℕ → Parser Token (Tall Exprs)
-arguments v r =
-    commit (λ u. when (is v s.RightParenthesis u) (pure no_arguments)) (expressions v r >>= λ all. close v s.RightParenthesis (fits r all.levels) (pure (as_arguments all)))
+arguments v r = commit (λ u. when (is v s.RightParenthesis u) (pure no_arguments)) (some_arguments v r)
 
 abbrev pub call_of : List ℕ → Tall Exprs → Tall Called
 call_of f args = tall (record { function = f; args = args.tree }) args.levels

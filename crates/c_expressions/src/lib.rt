@@ -6,8 +6,10 @@
 //! grammar spells.
 #![tactic(auto)]
 
+pub mod argument;
 pub mod expression;
 pub mod laws;
+pub mod list;
 pub mod part;
 pub mod tall;
 pub mod token;
