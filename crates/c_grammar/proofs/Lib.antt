@@ -1,4 +1,4 @@
-mod Beginnings
+pub mod Beginnings
 mod SpelledSamples
 mod NotSpelledSamples
 mod Groups

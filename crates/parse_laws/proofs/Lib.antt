@@ -4,7 +4,12 @@ pub mod Viable
 pub mod Loops
 pub mod Sound
 pub mod Operators
+pub mod After
+pub mod Completes
+pub mod Chains
 pub mod Exact
 pub mod Sums
 pub mod Promise
 pub mod Turns
+pub mod Finds
+pub mod Alike

@@ -84,6 +84,21 @@ module _ {Token A : Type 0} {R : List Token → List Token → A → Type 0} whe
       all [] b rest e = same [] b rest e end
       all (u ∷ ts) b rest e = go u ts b rest (k u) refl (x u) e
 
+  -- by the token, else by another part: that stands where the text ends or its token stops
+  pub fallback_sound : (k : Token → Move Token A) (other : Parser Token A) → ((u : Token) → SoundMove (λ mid rest a. R (u ∷ mid) rest a) (k u))
+      → ((a : A) (rest : List Token) → other [] ≡ Got a rest → R [] rest a)
+      → ((u : Token) (mid : List Token) (a : A) (rest : List Token) → k u ≡ Stop → other (u ∷ mid) ≡ Got a rest → R (u ∷ mid) rest a) → Sound (commit k other) R
+  fallback_sound k other x end stop = record { spelled = all }
+    where
+      go : (u : Token) (ts : List Token) (a : A) (rest : List Token) (m : Move Token A) → k u ≡ m → SoundMove (λ mid rest a. R (u ∷ mid) rest a) m → moved m other u ts ≡ Got a rest → R (u ∷ ts) rest a
+      go u ts a rest Stop d h e = stop u ts a rest d e
+      go u ts a rest Deep d h e = absurd cc
+      go u ts a rest (Go p) d h e = (h.taken p refl).spelled ts a rest e
+
+      all : (ts : List Token) (a : A) (rest : List Token) → commit k other ts ≡ Got a rest → R ts rest a
+      all [] a rest e = end a rest e
+      all (u ∷ ts) a rest e = go u ts a rest (k u) refl (x u) e
+
   pub when_sound : {p : Parser Token A} (b : Bool) → (b ≡ true → Sound p R) → SoundMove R (when b p)
   when_sound true h = go_sound (h refl)
   when_sound false h = stop_sound

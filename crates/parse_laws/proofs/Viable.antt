@@ -260,7 +260,7 @@ move_then {f = f} (goes p g v) y = goes (λ s. p s >>= f s) (λ s le. rw (g s le
 
 -- ---- a token that must come
 
-in_one_step : {Token A : Type 0} (is : Token → Bool) (f : Token → Parser Token A) (z : List Token) → commit (λ u. when (is u) (f u)) refuse z ≡ and_then (expect is z) f
+pub in_one_step : {Token A : Type 0} (is : Token → Bool) (f : Token → Parser Token A) (z : List Token) → commit (λ u. when (is u) (f u)) refuse z ≡ and_then (expect is z) f
 in_one_step is f [] = refl
 in_one_step is f (u ∷ z) = go (is u)
   where
