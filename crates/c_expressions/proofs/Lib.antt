@@ -1,6 +1,19 @@
-mod Shorter
-mod Turns
-mod Spelled
-mod Sounds
-mod Lists
-mod ListSounds
+pub mod Shorter
+pub mod Turns
+pub mod Spelled
+pub mod Sounds
+pub mod Lists
+pub mod ListSounds
+pub mod CallSounds
+pub mod Found
+pub mod FoundParts
+pub mod Words
+pub mod Closers
+pub mod Readings
+pub mod Operands
+pub mod Parts
+pub mod Fits
+pub mod Names
+pub mod Same
+pub mod LexerWords
+pub mod PartsShorter

@@ -13,10 +13,10 @@ use Rattle.c_expressions.specs.Parsers.{Sight, what_at, is, fits, fitting, added
 use Rattle.c_expressions.proofs.Spelled.{is_sign_only}
 use Rattle.c_expressions.proofs.Sounds.{items, expression_sound, fitting_sound}
 
-gathered_one : (e : Tall Expr) → gathered (e ∷ []) ≡ one_expression e
+pub gathered_one : (e : Tall Expr) → gathered (e ∷ []) ≡ one_expression e
 gathered_one e = let p : max e.levels 0 ≡ e.levels = omega arith in ap (λ (l : ℕ). tall (e.tree ∷ []) l) p
 
-gathered_more : (all : List (Tall Expr)) (e : Tall Expr) → gathered (all ++ e ∷ []) ≡ with_expression (gathered all) e
+pub gathered_more : (all : List (Tall Expr)) (e : Tall Expr) → gathered (all ++ e ∷ []) ≡ with_expression (gathered all) e
 gathered_more [] e = let p : max e.levels 0 ≡ max 0 e.levels = omega arith in ap (λ (l : ℕ). tall (e.tree ∷ []) l) p
 gathered_more (x ∷ all) e =
     let p : max x.levels (max (gathered all).levels e.levels) ≡ max (max x.levels (gathered all).levels) e.levels = omega arith in

@@ -88,7 +88,7 @@ module _ {Token : Type 0} where
 -- ---- the parts of expressions
 
 module _ {Token : Type 0} (v : Sight Token) where
-  less_named : {A : Type 0} {p : List ℕ → Parser Token A} (n : Option (List ℕ)) → ((n : List ℕ) → Sound (p n) Less) → SoundMove Less (go_named p n)
+  pub less_named : {A : Type 0} {p : List ℕ → Parser Token A} (n : Option (List ℕ)) → ((n : List ℕ) → Sound (p n) Less) → SoundMove Less (go_named p n)
   less_named None x = stop_sound
   less_named (Some n) x = go_sound (x n)
 
@@ -100,7 +100,7 @@ module _ {Token : Type 0} (v : Sight Token) where
   unfolding pointer_cast
   less_pointer_cast = less_commit (λ u. less_named _ (λ n. less_pure)) less_pure
 
-  less_int_cast : Sound (int_cast v) Less
+  pub less_int_cast : Sound (int_cast v) Less
   unfolding int_cast
   less_int_cast = less_must _ (less_must _ (less_must _ (less_must _ less_cast_name)))
 
@@ -111,28 +111,28 @@ module _ {Token : Type 0} (v : Sight Token) where
       go true = less_fitting fits x
       go false = stop_sound
 
-  less_close : {A : Type 0} (sign : Sign) (fits : Bool) {p : Parser Token A} → Sound p Less → Sound (close v sign fits p) Less
+  pub less_close : {A : Type 0} (sign : Sign) (fits : Bool) {p : Parser Token A} → Sound p Less → Sound (close v sign fits p) Less
   less_close sign fits x = less_bind (less_choice (λ u. less_close_by sign fits less_pure u)) (λ u. x)
 
   module _ (r : ℕ) (lower : ℕ → Parser Token (Tall Expr)) (h : (m : ℕ) → r ≡ suc m → (k : ℕ) → Sound (lower k) Fewer) where
-    fewer_expression : Sound (expression_in v r lower) Fewer
+    pub fewer_expression : Sound (expression_in v r lower) Fewer
     fewer_expression = level_sound _ r (λ m e. h m e 6)
 
-    fewer_closed : Sound (closed v r (expression_in v r lower)) Fewer
+    pub fewer_closed : Sound (closed v r (expression_in v r lower)) Fewer
     fewer_closed = fewer_bind fewer_expression (λ e. less_close _ _ less_pure)
 
-    less_first : (u : Token) → Sound (pointer_first v r lower u) Less
+    pub less_first : (u : Token) → Sound (pointer_first v r lower u) Less
     less_first u = go r h
       where
         go : (r : ℕ) → ((m : ℕ) → r ≡ suc m → (k : ℕ) → Sound (lower k) Fewer) → Sound (pointer_first v r lower u) Less
         go zero h = record { spelled = λ ts a rest e. absurd cc }
         go (suc m) h = record { spelled = λ ts a rest e. let le = (fewer_bind (h m refl 6) (λ e. less_close s.RightParenthesis _ less_pure)).spelled (u ∷ ts) a rest e in omega (arith, le) }
 
-    less_pointer : {cast : Parser Token (Tall Expr)} → Sound cast Less → (u : Token) → Sound (pointer v r lower cast u) Less
+    pub less_pointer : {cast : Parser Token (Tall Expr)} → Sound cast Less → (u : Token) → Sound (pointer v r lower cast u) Less
     unfolding pointer
     less_pointer x u = less_commit (λ t. less_when _ x) (less_first u)
 
-    less_opened : {long_cast pointer_cast : Parser Token (Tall Expr)} → Sound long_cast Less → Sound pointer_cast Less → Sound (opened v r lower long_cast pointer_cast) Less
+    pub less_opened : {long_cast pointer_cast : Parser Token (Tall Expr)} → Sound long_cast Less → Sound pointer_cast Less → Sound (opened v r lower long_cast pointer_cast) Less
     unfolding opened
     less_opened {long_cast = long_cast} {pointer_cast = pointer_cast} x y = less_commit (λ u. go u (inner (seen v u))) (fewer_less fewer_closed)
       where
@@ -142,10 +142,10 @@ module _ {Token : Type 0} (v : Sight Token) where
         go u i.Pointer = go_sound (less_pointer y u)
         go u i.Other = stop_sound
 
-    less_index : (m : ℕ) → r ≡ suc m → Sound (index_in v r lower) Less
+    pub less_index : (m : ℕ) → r ≡ suc m → Sound (index_in v r lower) Less
     less_index m e = fewer_less (fewer_bind (h m e 6) (λ a. less_close _ _ less_pure))
 
-    less_behind : {A : Type 0} (make : Tall Expr → A) (alone : A) → Sound (behind_name v r lower make alone) Less
+    pub less_behind : {A : Type 0} (make : Tall Expr → A) (alone : A) → Sound (behind_name v r lower make alone) Less
     less_behind make alone = less_commit (λ u. go (is v s.LeftBracket u)) less_pure
       where
         go : (b : Bool) → SoundMove Less (cond b (deeper (λ _. indexed v r lower make) r) Stop)
@@ -161,7 +161,7 @@ module _ {Token : Type 0} (v : Sight Token) where
     less_operand_by Head.Minus = less_deeper r (λ m e. less_bind (fewer_less (h m e 0)) (λ a. less_pure))
     less_operand_by Head.Other = stop_sound
 
-    fewer_operand : Sound (operand v r lower) Fewer
+    pub fewer_operand : Sound (operand v r lower) Fewer
     unfolding operand
     fewer_operand = fewer_choice (λ u. less_operand_by (head (seen v u)))
 
@@ -187,7 +187,7 @@ module _ {Token : Type 0} (v : Sight Token) where
   less_climb r zero h a = less_pure
   less_climb r (suc k) h a = less_bind (less_climb r k h a) (less_loop (less_operate r k h))
 
-  below_fewer : (r : ℕ) → ((m : ℕ) → r ≡ suc m → (k : ℕ) → Sound (chain (expressions_of v) m k) Fewer) → (m : ℕ) → r ≡ suc m → (k : ℕ) → Sound (lower_in v r k) Fewer
+  pub below_fewer : (r : ℕ) → ((m : ℕ) → r ≡ suc m → (k : ℕ) → Sound (chain (expressions_of v) m k) Fewer) → (m : ℕ) → r ≡ suc m → (k : ℕ) → Sound (lower_in v r k) Fewer
   below_fewer zero h m e k = absurd cc
   below_fewer (suc r) h m e k = h r refl k
 

@@ -35,7 +35,7 @@ module _ {Token : Type 0} (v : Sight Token) where
   Opened ts rest e = (l : ℕ) → SpellsPrimary (sign l s.LeftParenthesis ∷ items ts) (items rest) e
 
   module _ {A : Type 0} where
-    named_sound : (R : List Token → List Token → A → Type 0) {p : List ℕ → Parser Token A} (u : Token) → ((n : List ℕ) → name_of (seen v u) ≡ Some n → Sound (p n) (λ mid rest a. R (u ∷ mid) rest a)) → SoundMove (λ mid rest a. R (u ∷ mid) rest a) (named v p u)
+    pub named_sound : (R : List Token → List Token → A → Type 0) {p : List ℕ → Parser Token A} (u : Token) → ((n : List ℕ) → name_of (seen v u) ≡ Some n → Sound (p n) (λ mid rest a. R (u ∷ mid) rest a)) → SoundMove (λ mid rest a. R (u ∷ mid) rest a) (named v p u)
     named_sound R {p = p} u h = go (name_of (seen v u)) h
       where
         go : (o : Option (List ℕ)) → ((n : List ℕ) → o ≡ Some n → Sound (p n) (λ mid rest a. R (u ∷ mid) rest a)) → SoundMove (λ mid rest a. R (u ∷ mid) rest a) (go_named p o)
@@ -47,11 +47,11 @@ module _ {Token : Type 0} (v : Sight Token) where
     fitting_sound true x = go_sound x
     fitting_sound false x = deep_sound
 
-    deeper_sound : {p : Parser Token A} (r : ℕ) → ((m : ℕ) → r ≡ suc m → Sound p R) → SoundMove R (deeper (λ _. p) r)
+    pub deeper_sound : {p : Parser Token A} (r : ℕ) → ((m : ℕ) → r ≡ suc m → Sound p R) → SoundMove R (deeper (λ _. p) r)
     deeper_sound zero h = deep_sound
     deeper_sound (suc r) h = go_sound (h r refl)
 
-    close_sound : {p : Parser Token A} (x : Sign) (fit : Bool) → ((u : Token) → is v x u ≡ true → Sound p (λ mid rest a. R (u ∷ mid) rest a)) → Sound (close v x fit p) R
+    pub close_sound : {p : Parser Token A} (x : Sign) (fit : Bool) → ((u : Token) → is v x u ≡ true → Sound p (λ mid rest a. R (u ∷ mid) rest a)) → Sound (close v x fit p) R
     close_sound {p = p} x fit h =
         bind_sound {R = λ ts rest u. (ts ≡ u ∷ rest) × (is v x u ≡ true)} (commit_sound (λ u. go u (is v x u) refl) refuse_sound)
         (λ u. record { spelled = λ mid a rest e ts y. subst (λ (w : List Token). R w rest a) (sym y.0) ((h u y.1).spelled mid a rest e) })
@@ -70,7 +70,7 @@ module _ {Token : Type 0} (v : Sight Token) where
   unfolding cast_name
   cast_name_sound {R = R} h = commit_sound (λ u. named_sound R u (λ n e. pure_sound (λ rest. h u n rest e))) refuse_sound
 
-  int_cast_sound : (u : Token) → inner (seen v u) ≡ i.Int → Sound (int_cast v) (λ mid rest e. Opened (u ∷ mid) rest e)
+  pub int_cast_sound : (u : Token) → inner (seen v u) ≡ i.Int → Sound (int_cast v) (λ mid rest e. Opened (u ∷ mid) rest e)
   unfolding int_cast
   int_cast_sound u d =
       token_sound (λ u1 e1. token_sound (λ u2 e2. token_sound (λ u3 e3. token_sound (λ u4 e4. cast_name_sound (λ u5 n rest e5 l. go (v.item u) d l u1 u2 u3 u4 u5 n rest e1 e2 e3 e4 e5)))))
@@ -79,10 +79,10 @@ module _ {Token : Type 0} (v : Sight Token) where
           → name_of (seen v u5) ≡ Some n → SpellsPrimary (sign l s.LeftParenthesis ∷ t ∷ v.item u1 ∷ v.item u2 ∷ v.item u3 ∷ v.item u4 ∷ v.item u5 ∷ items rest) (items rest) (argument_of n)
       go (at m a) d l u1 u2 u3 u4 u5 n rest e1 e2 e3 e4 e5 = rw (spelled.inner_int a d) (spelled.int_spelled l m (v.item u1) (v.item u2) (v.item u3) (v.item u4) (v.item u5) (items rest) n e1 e2 e3 e4 e5)
 
-  cast_inner_long : (x : Inner) → x ≡ i.Long → is_cast_inner x ≡ true
+  pub cast_inner_long : (x : Inner) → x ≡ i.Long → is_cast_inner x ≡ true
   cast_inner_long x e = rw e refl
 
-  cast_inner_pointer : (x : Inner) → x ≡ i.Pointer → is_cast_inner x ≡ true
+  pub cast_inner_pointer : (x : Inner) → x ≡ i.Pointer → is_cast_inner x ≡ true
   cast_inner_pointer x e = rw e refl
 
   long_sound : (u : Token) → inner (seen v u) ≡ i.Long → Sound (must (is v s.RightParenthesis) (cast_name v)) (λ mid rest e. Opened (u ∷ mid) rest e)
@@ -95,13 +95,13 @@ module _ {Token : Type 0} (v : Sight Token) where
       (pure_sound (λ rest l. spelled.pointer_spelled l (v.item u) (v.item t) (items rest) (spelled.inner_pointer (seen v u) d) e1))
 
   module _ (r : ℕ) (lower : ℕ → Parser Token (Tall Expr)) (h : (m : ℕ) → r ≡ suc m → (k : ℕ) → Sound (lower k) (E k)) where
-    closed_sound : {inside : Parser Token (Tall Expr)} → Sound inside (E loosest) → Sound (closed v r inside) Opened
+    pub closed_sound : {inside : Parser Token (Tall Expr)} → Sound inside (E loosest) → Sound (closed v r inside) Opened
     closed_sound x = bind_sound x (λ e. close_sound s.RightParenthesis (fits r e.levels) (λ u q. pure_sound (λ rest ts d l. spelled.parentheses_spelled l (v.item u) (items ts) (items rest) e q d)))
 
-    expression_in_sound : Sound (expression_in v r lower) (E loosest)
+    pub expression_in_sound : Sound (expression_in v r lower) (E loosest)
     expression_in_sound = level_sound _ r (λ m e. h m e loosest)
 
-    pointer_first_sound : (u : Token) → Sound (pointer_first v r lower u) (λ mid rest e. Opened (u ∷ mid) rest e)
+    pub pointer_first_sound : (u : Token) → Sound (pointer_first v r lower u) (λ mid rest e. Opened (u ∷ mid) rest e)
     pointer_first_sound u = go r h
       where
         go : (r : ℕ) → ((m : ℕ) → r ≡ suc m → (k : ℕ) → Sound (lower k) (E k)) → Sound (pointer_first v r lower u) (λ mid rest e. Opened (u ∷ mid) rest e)
@@ -153,7 +153,7 @@ module _ {Token : Type 0} (v : Sight Token) where
         unary_of (g.unary x) = x
     operand_move_sound u Head.Other d = stop_sound
 
-    operand_sound : Sound (operand v r lower) (E 0)
+    pub operand_sound : Sound (operand v r lower) (E 0)
     unfolding operand
     operand_sound = sound_map (λ ts rest e y. g.unary y) (commit_sound (λ u. operand_move_sound u (head (seen v u)) refl) refuse_sound)
 
@@ -198,7 +198,7 @@ module _ {Token : Type 0} (v : Sight Token) where
           record { spelled = λ ts a rest e. x.spelled ts a rest (sym (ops.chain_is (expressions_of v) r k ts) ∙ e) }
 
   -- a level below a room
-  lower_sound : (r m : ℕ) → r ≡ suc m → (k : ℕ) → Sound (lower_in v r k) (E k)
+  pub lower_sound : (r m : ℕ) → r ≡ suc m → (k : ℕ) → Sound (lower_in v r k) (E k)
   lower_sound r m e k = below_sound r (λ n d j. chain_sound n j) m e k
 
   -- an expression of a statement

@@ -16,7 +16,16 @@ use Rattle.c_expressions.specs.Parsers.{Sight}
 
 -- how the code sees its tokens
 abbrev pub sight : Setting → Sight Marked
-sight setting = record { item = item_of setting.text.now; casts = setting.casts; void = setting.void }
+sight setting = record {
+  item = item_of setting.text.now;
+  casts = setting.casts;
+  void = setting.void;
+  null = setting.null;
+  ready_mutexes = setting.ready_mutexes;
+  ready_conditions = setting.ready_conditions;
+  threads = setting.threads;
+  declarations = setting.declarations;
+}
 
 -- a part of the tree as plain data, with the levels that it takes
 abbrev pub tall_of : {A B : Type 0} → (A → B) → shown.Tall A → Tall B

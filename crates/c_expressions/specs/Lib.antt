@@ -1,5 +1,8 @@
 pub mod Marked
 pub mod Words
 pub mod Parsers
+pub mod Named
 pub mod Gives
 pub mod Laws
+pub mod Honest
+pub mod Ends

@@ -26,7 +26,7 @@ what_of text marked.Keyword = What.Keyword
 what_of text (marked.Number value) = What.Number value
 what_of text (marked.Text format) = What.Text (bytes_at text format)
 what_of text (marked.Sign sign) = What.Sign sign
-what_of text marked.Definition = What.Definition
+what_of text (marked.Definition word) = What.Definition
 what_of text marked.Repeated = What.Repeated
 
 abbrev pub item_of : List ℕ → Marked → Item

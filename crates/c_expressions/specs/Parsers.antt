@@ -27,6 +27,16 @@ pub record Sight (Token : Type 0) : Type 0 where
   pub casts : Bool
   -- `void` hasn't
   pub void : Bool
+  -- `NULL` hasn't
+  pub null : Bool
+  -- `PTHREAD_MUTEX_INITIALIZER` hasn't
+  pub ready_mutexes : Bool
+  -- `PTHREAD_COND_INITIALIZER` hasn't
+  pub ready_conditions : Bool
+  -- `pthread_t` hasn't
+  pub threads : Bool
+  -- one of the words that may follow `static` outside functions hasn't
+  pub declarations : Bool
 
 abbrev pub what_at : Item → What
 what_at (at line what) = what

@@ -24,8 +24,8 @@ pub enum What {
     Text(Span),
     /// A sign.
     Sign(Sign),
-    /// A definition of a name.
-    Definition,
+    /// A definition of a name, and which word of the grammar that name is, if any.
+    Definition(Option<FixedWord>),
     /// A definition of a name that has one already.
     Repeated,
 }
@@ -49,6 +49,17 @@ pub struct Setting<'t> {
     pub casts: bool,
     /// `void`.
     pub void: bool,
+    /// `NULL`.
+    pub null: bool,
+    /// `PTHREAD_MUTEX_INITIALIZER`.
+    pub ready_mutexes: bool,
+    /// `PTHREAD_COND_INITIALIZER`.
+    pub ready_conditions: bool,
+    /// `pthread_t`.
+    pub threads: bool,
+    /// One of the words that may follow `static` outside functions: `int`, `void`, `pthread_t`, `pthread_mutex_t`
+    /// or `pthread_cond_t`.
+    pub declarations: bool,
 }
 
 /// The bytes at a place of a text, or none where the text has no such place.

@@ -1,0 +1,10 @@
+pub mod Shorter
+pub mod Turns
+pub mod Tokens
+pub mod Sounds
+pub mod FoundLists
+pub mod Found
+pub mod FoundObjects
+pub mod FoundHeads
+pub mod Viable
+pub mod Same

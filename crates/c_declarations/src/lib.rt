@@ -1,0 +1,17 @@
+//! The parser of what stands outside functions: scalars and arrays of type `int`, mutexes, conditions, the
+//! capacities of monitors, and the heads of functions.
+//!
+//! Each function reads what the function of its name in `specs/` does, which is a parser over lists of
+//! tokens made of the combinators of `parse_laws`. The laws in `laws` say that what it reads is what the
+//! grammar spells.
+#![tactic(auto)]
+
+pub mod capacity;
+pub mod cell;
+pub mod declaration;
+pub mod function;
+pub mod laws;
+pub mod object;
+pub mod token;
+pub mod tree;
+pub mod value;

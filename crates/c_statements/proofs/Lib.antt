@@ -1,0 +1,14 @@
+pub mod Lists
+pub mod Shorter
+pub mod Openings
+pub mod Turns
+pub mod Spelled
+pub mod Sounds
+pub mod BodySounds
+pub mod Fits
+pub mod Tokens
+pub mod Found
+pub mod FoundBodies
+pub mod Viable
+pub mod ViableBodies
+pub mod Same
