@@ -1,0 +1,13 @@
+pub mod Lists
+pub mod Shorter
+pub mod Turns
+pub mod Sounds
+pub mod Viable
+pub mod Exact
+pub mod Found
+pub mod Whole
+pub mod Exactness
+pub mod RunningWords
+pub mod WordParts
+pub mod WordHonest
+pub mod WordExact
