@@ -3,7 +3,7 @@ use Rattle.std.specs.Prelude.{ℕ, List, [], if◌then◌else◌}
 use Rattle.answers.specs.declared.status.Status.{Status}
 use Rattle.answers.specs.declared.status.Status.TheVariants.{Usage, Refused, Limit, HostFault}
 use Rattle.answers.specs.Statuses.{is_written}
-use Rattle.answers.specs.Lines.{usage_line, unread_line, too_long_line, refused_line, not_built_line}
+use Rattle.answers.specs.Lines.{usage_line, unread_line, too_long_line, limit_line, refused_line, not_built_line}
 
 -- a status, the text of the output and the line of complaint
 pub record Answered : Type 0 where
@@ -36,6 +36,10 @@ unread_answer name = complained_answer HostFault (unread_line name)
 -- a file has more bytes than are read
 abbrev pub too_long_answer : List ℕ → ℕ → Answered
 too_long_answer name limit = complained_answer Limit (too_long_line name limit)
+
+-- a text passes a limit
+abbrev pub limit_answer : List ℕ → List ℕ → ℕ → Answered
+limit_answer name what number = complained_answer Limit (limit_line name what number)
 
 -- a text is refused at a line
 abbrev pub refused_answer : List ℕ → ℕ → List ℕ → Answered

@@ -1,31 +1,56 @@
 -- What `instrument` answers of a file.
-use Rattle.std.specs.Prelude.{◌≡◌, ℕ, true, List, codes, Some, None}
+use Rattle.std.specs.Prelude.{◌≡◌, ℕ, true, false, List, codes, Some, None}
+use Rattle.c_lexer.specs.declared.token.LexError.{LexError}
 use Rattle.c_tree.specs.Lined as lined
 use Rattle.c_tree.specs.Lined.{bare_program}
-use Rattle.c_tree.specs.FirstForm.{is_first_form, first_nested}
-use Rattle.c_parser.specs.Spells.{Spells}
+use Rattle.c_tree.specs.FirstForm.{first_nested}
+use Rattle.first_form.specs.Size.{has_first_text}
+use Rattle.c_parser.specs.Parsed.{SpelledBy, RefusedBy, FailsOnLine, TooDeepOnLine, GoesOnTooLong}
 use Rattle.c_meaning.specs.Stuck.{NeverStuck}
 use Rattle.answers.specs.declared.status.Status.TheVariants.{Done}
-use Rattle.answers.specs.Answered.{Answered, written_answer, refused_answer, not_built_answer}
+use Rattle.answers.specs.Answered.{Answered, written_answer, refused_answer, not_built_answer, limit_answer}
+use Rattle.answers.specs.Reasons.{line_of, reason_of}
 
--- a text spells a program of the first form in which no lock stands below another that isn't unlocked
--- since, and no state that this program reaches, on any input and by any schedule, has a stuck set
+-- a text spells a program that some text of the first form spells too, in which no lock stands below another that
+-- isn't unlocked since, and no state that this program reaches, on any input and by any schedule, has a stuck set
 pub record IsAccepted (bytes : List ℕ) : Type 0 where
   pub program : lined.Program
-  pub spelled : Spells bytes program
-  pub first_form : is_first_form (bare_program program) ≡ true
+  pub spelled : SpelledBy bytes program
+  pub first_form : has_first_text (bare_program program) ≡ true
   pub not_nested : first_nested program ≡ None
   pub never_stuck : NeverStuck (bare_program program)
 
--- a text spells a program of the first form, and its first lock below another stands at this line
+-- a text spells such a program, and its first lock below another stands at this line
 pub record HasNestedLock (bytes : List ℕ) (line : ℕ) : Type 0 where
   pub program : lined.Program
-  pub spelled : Spells bytes program
-  pub first_form : is_first_form (bare_program program) ≡ true
+  pub spelled : SpelledBy bytes program
+  pub first_form : has_first_text (bare_program program) ≡ true
   pub nested : first_nested program ≡ Some line
 
--- the text of a file is handed back where it is accepted, is refused at a nested lock, or has a form that isn't built yet
+-- a text spells a program that no text of the first form spells
+pub record IsOfOtherForm (bytes : List ℕ) : Type 0 where
+  pub program : lined.Program
+  pub spelled : SpelledBy bytes program
+  pub other : has_first_text (bare_program program) ≡ false
+
+-- at which line, and for which reason, a text is refused
+pub data IsRefused (bytes : List ℕ) : ℕ → List ℕ → Type 0 where
+  lexed : {error : LexError} → RefusedBy bytes error → IsRefused bytes (line_of error) (reason_of error)
+  syntax : {line : ℕ} → FailsOnLine bytes line → IsRefused bytes line (codes "syntax")
+  nested : {line : ℕ} → HasNestedLock bytes line → IsRefused bytes line (codes "lock while a mutex is held")
+
+-- which limit a text passes
+pub data Passes (bytes : List ℕ) : List ℕ → ℕ → Type 0 where
+  depth : {line : ℕ} → TooDeepOnLine bytes line → Passes bytes (codes "depth") 64
+  tokens : GoesOnTooLong bytes → Passes bytes (codes "tokens") 65536
+
+-- the text of a file is handed back where it is accepted, is refused at a line, has a form that isn't built yet, or passes a limit
 pub data Instruments (name bytes : List ℕ) (answer : Answered) : Type 0 where
   handed_back : IsAccepted bytes → answer ≡ written_answer Done bytes → Instruments name bytes answer
-  nested : (line : ℕ) → HasNestedLock bytes line → answer ≡ refused_answer name line (codes "lock while a mutex is held") → Instruments name bytes answer
-  not_built : answer ≡ not_built_answer name → Instruments name bytes answer
+  refused : (line : ℕ) (reason : List ℕ) → IsRefused bytes line reason → answer ≡ refused_answer name line reason → Instruments name bytes answer
+  not_built : IsOfOtherForm bytes → answer ≡ not_built_answer name → Instruments name bytes answer
+  limited : (what : List ℕ) (number : ℕ) → Passes bytes what number → answer ≡ limit_answer name what number → Instruments name bytes answer
+
+-- Each text has one such answer.
+abbrev pub OneAnswer : Type 0
+OneAnswer = (name bytes : List ℕ) (answer other : Answered) → Instruments name bytes answer → Instruments name bytes other → answer ≡ other

@@ -16,6 +16,9 @@ memory_line = codes "gadara: out of memory\n"
 abbrev pub too_long_line : List ℕ → ℕ → List ℕ
 too_long_line name limit = codes "gadara: " ++ (name ++ (codes ": limit: bytes " ++ (decimal limit ++ codes "\n")))
 
+abbrev pub limit_line : List ℕ → List ℕ → ℕ → List ℕ
+limit_line name what number = codes "gadara: " ++ (name ++ (codes ": limit: " ++ (what ++ (codes " " ++ (decimal number ++ codes "\n")))))
+
 abbrev pub refused_line : List ℕ → ℕ → List ℕ → List ℕ
 refused_line name line text = codes "gadara: " ++ (name ++ (codes ": line " ++ (decimal line ++ (codes ": " ++ (text ++ codes "\n")))))
 

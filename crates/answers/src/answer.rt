@@ -1,6 +1,6 @@
 // What a call is to end with: a status, the text of its output, or its line of complaint.
 ghost use Rattle.std.specs.Prelude.{◌≡◌, IfOk, string_bytes};
-ghost use Rattle.answers.specs.Answered.{Answered, written_answer, complained_answer, usage_answer, unread_answer, too_long_answer, refused_answer, not_built_answer};
+ghost use Rattle.answers.specs.Answered.{Answered, written_answer, complained_answer, usage_answer, unread_answer, too_long_answer, limit_answer, refused_answer, not_built_answer};
 
 use crate::lines;
 use crate::status::Status;
@@ -88,6 +88,14 @@ pub fn too_long(alloc: Global, name: &str, limit: usize) -> Result<Answer, Alloc
     ensures { IfOk result (λ answer. answer ≡ too_long_answer name.now limit) }
 {
     let line = lines::too_long(alloc, name, limit)?;
+    Ok(complained(alloc, Status::Limit, line))
+}
+
+/// The text of a file passes the limit of something, which is this number.
+pub fn limited(alloc: Global, name: &str, what: &str, number: u32) -> Result<Answer, AllocError>
+    ensures { IfOk result (λ answer. answer ≡ limit_answer name.now what.now number) }
+{
+    let line = lines::limited(alloc, name, what, number)?;
     Ok(complained(alloc, Status::Limit, line))
 }
 

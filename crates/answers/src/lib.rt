@@ -7,11 +7,14 @@
 mod answer;
 mod commands;
 mod instrument;
+mod laws;
 mod lines;
+mod reasons;
 mod status;
 mod task;
 
 pub use answer::{Answer, too_long, unread, usage};
 pub use commands::decide;
+pub use laws::one_answer;
 pub use status::Status;
 pub use task::{Task, task_of};

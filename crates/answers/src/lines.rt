@@ -1,6 +1,6 @@
 // The lines of complaint, each with its newline.
 ghost use Rattle.std.specs.Prelude.{◌≡◌, IfOk, string_bytes};
-ghost use Rattle.answers.specs.Lines.{usage_line, unread_line, too_long_line, refused_line, not_built_line};
+ghost use Rattle.answers.specs.Lines.{usage_line, unread_line, too_long_line, limit_line, refused_line, not_built_line};
 
 use std::alloc::{AllocError, Global};
 
@@ -25,6 +25,13 @@ pub fn too_long(alloc: Global, name: &str, limit: usize) -> Result<String, Alloc
     ensures { IfOk result (λ line. string_bytes line ≡ too_long_line name.now limit) }
 {
     format!(in alloc; "gadara: {name}: limit: bytes {limit}\n")
+}
+
+/// The text of a file passes the limit of something, which is this number.
+pub fn limited(alloc: Global, name: &str, what: &str, number: u32) -> Result<String, AllocError>
+    ensures { IfOk result (λ line. string_bytes line ≡ limit_line name.now what.now number) }
+{
+    format!(in alloc; "gadara: {name}: limit: {what} {number}\n")
 }
 
 /// The text of a file is refused at a line, from 1, for a reason.

@@ -1,17 +1,17 @@
 -- Tokens of two types that are seen alike are read alike, up to a definition: what stands outside functions, up to their bodies.
-use Rattle.std.proofs.Common.{◌≡◌, ℕ, ℤ, pos, neg_ℤ, Bool, true, false, cond, List, [], ◌∷◌, length, Option, Some, None, refl, sym, subst}
+use Rattle.std.proofs.Common.{◌≡◌, ℕ, nat_lt, ℤ, pos, neg_ℤ, Bool, true, false, cond, List, [], ◌∷◌, length, Option, Some, None, refl, sym, subst}
 use Rattle.c_lexer.specs.declared.token.Sign.{Sign}
 use Rattle.c_lexer.specs.declared.token.Sign.TheVariants as s
 use Rattle.c_tree.specs.declared.program.Kind.TheVariants as kind
 use Rattle.c_grammar.specs.declared.words.FixedWord.{FixedWord}
 use Rattle.c_grammar.specs.declared.words.FixedWord.TheVariants as w
-use Rattle.c_grammar.specs.Items.{What, Item, name_of, cell_name, function_name, spelling}
+use Rattle.c_grammar.specs.Items.{What, Item, at, name_of, cell_name, function_name, spelling}
 use Rattle.parse_laws.specs.Parser.{Parser, ◌>>=◌, pure, Move, Stop, Go, when, must, separated}
-use Rattle.parse_laws.proofs.Alike.{Ways, Alike, AlikeMove, AlikeMoves, Stays, pure_alike, commit_alike, choice_alike, option_alike, when_alike, test_alike, must_alike, bind_alike, many_alike, separated_alike}
+use Rattle.parse_laws.proofs.Alike.{Ways, Alike, AlikeMove, AlikeMoves, Stays, alike_moves, pure_alike, commit_alike, choice_alike, option_alike, when_alike, test_alike, must_alike, bind_alike, many_alike, separated_alike}
 use Rattle.c_expressions.specs.Words.{is_sign}
 use Rattle.c_expressions.specs.Parsers.{Sight, what_at, seen, is, go_named, named}
 use Rattle.c_expressions.proofs.Same as same
-use Rattle.c_expressions.proofs.Same.{Like, bars, by_bars}
+use Rattle.c_expressions.proofs.Same.{Like, bars, clear, by_bars}
 use Rattle.c_declarations.specs.declared.tree.Sort.{Sort}
 use Rattle.c_declarations.specs.declared.tree.Sort.TheVariants as sort
 use Rattle.c_declarations.specs.declared.tree.Head.{Head}
@@ -35,7 +35,7 @@ module _ {One Two : Type 0} (v : Sight One) (z : Sight Two) (like : Like v z) (L
   module _ {A : Type 0} where
     -- moves by the item of a token
     by_item : (k : Item → Move One A) (m : Item → Move Two A) → ((t : Item) → SM (k t) (m t)) → ((t : Item) → bars t ≡ true → Stays ways (m t)) → SMs (λ u. k (v.item u)) (λ t. m (z.item t))
-    by_item k m h d = record { moves = λ u t e. subst (λ (x : Item). SM (k x) (m (z.item t))) (sym e) (h (z.item t)); stays = λ t b. d (z.item t) b }
+    by_item k m h d = alike_moves ways (λ u t e. subst (λ (x : Item). SM (k x) (m (z.item t))) (sym e) (h (z.item t))) (λ t b. d (z.item t) b)
 
     by_what : (k : What → Move One A) (m : What → Move Two A) → ((a : What) → SM (k a) (m a)) → Stays ways (m What.Definition) → Stays ways (m What.Repeated) → SMs (λ u. k (seen v u)) (λ t. m (seen z t))
     by_what k m h d r = same.by_what v z like Later long k m h d r
@@ -102,62 +102,85 @@ module _ {One Two : Type 0} (v : Sight One) (z : Sight Two) (like : Like v z) (L
 
   -- ---- values
 
-  module _ (holds : ℕ → Bool) where
-    held_same : (f : ℕ → ℤ) → SMs (λ u. go_with (λ k. pure (f k)) (held holds (seen v u))) (λ t. go_with (λ k. pure (f k)) (held holds (seen z t)))
-    held_same f = by_what (λ a. go_with (λ k. pure (f k)) (held holds a)) (λ a. go_with (λ k. pure (f k)) (held holds a)) (λ a. with_same (λ k. pure (f k)) (λ k. pure (f k)) (λ k. pure_alike ways (f k)) (held holds a)) tt tt
+  -- where the numbers that there are may be first values alike
+  module _ (holds mine : ℕ → Bool) (small : (k : ℕ) → nat_lt k 2147483648 ≡ true → holds k ≡ mine k) where
+    held_alike : (f : ℕ → ℤ) (t : Item) → clear t ≡ true → SM (go_with (λ k. pure (f k)) (held holds (what_at t))) (go_with (λ k. pure (f k)) (held mine (what_at t)))
+    held_alike f (at l (What.Number k)) c =
+        subst (λ (b : Bool). SM (go_with (λ k. pure (f k)) (cond b (Some k) None)) (go_with (λ k. pure (f k)) (cond (mine k) (Some k) None))) (sym (small k c)) (with_same (λ k. pure (f k)) (λ k. pure (f k)) (λ k. pure_alike ways (f k)) (cond (mine k) (Some k) None))
+    held_alike f (at l _) c = tt
 
-    negative_same : S (negative v holds) (negative z holds)
+    held_barred : (f : ℕ → ℤ) (t : Item) → bars t ≡ true → SM (go_with (λ k. pure (f k)) (held holds (what_at t))) (go_with (λ k. pure (f k)) (held mine (what_at t)))
+    held_barred f t b = by_bars (λ a. SM (go_with (λ k. pure (f k)) (held holds a)) (go_with (λ k. pure (f k)) (held mine a))) tt tt t b
+
+    held_same : (f : ℕ → ℤ) → SMs (λ u. go_with (λ k. pure (f k)) (held holds (seen v u))) (λ t. go_with (λ k. pure (f k)) (held mine (seen z t)))
+    held_same f = record {
+      moves = λ u t e c. subst (λ (x : Item). SM (go_with (λ k. pure (f k)) (held holds (what_at x))) (go_with (λ k. pure (f k)) (held mine (seen z t)))) (sym e) (held_alike f (z.item t) c);
+      barred = λ u t e b. subst (λ (x : Item). SM (go_with (λ k. pure (f k)) (held holds (what_at x))) (go_with (λ k. pure (f k)) (held mine (seen z t)))) (sym e) (held_barred f (z.item t) b);
+      stays = λ t b. by_bars (λ a. Stays ways (go_with (λ k. pure (f k)) (held mine a))) tt tt (z.item t) b;
+    }
+
+    negative_same : S (negative v holds) (negative z mine)
     unfolding negative
-    negative_same = choice_alike ways (λ u. go_with (λ k. pure (neg_ℤ (pos k))) (held holds (seen v u))) (λ t. go_with (λ k. pure (neg_ℤ (pos k))) (held holds (seen z t))) (held_same (λ k. neg_ℤ (pos k)))
+    negative_same = choice_alike ways (λ u. go_with (λ k. pure (neg_ℤ (pos k))) (held holds (seen v u))) (λ t. go_with (λ k. pure (neg_ℤ (pos k))) (held mine (seen z t))) (held_same (λ k. neg_ℤ (pos k)))
 
-    value_same : S (value v holds) (value z holds)
+    value_alike : (f : What → Move One ℤ) (g : What → Move Two ℤ) → SMs (λ u. f (seen v u)) (λ t. g (seen z t)) → SMs (λ u. cond (is_sign s.Minus (seen v u)) (Go (negative v holds)) (f (seen v u))) (λ t. cond (is_sign s.Minus (seen z t)) (Go (negative z mine)) (g (seen z t)))
+    value_alike f g h = record {
+      moves = λ u t e c. go u t e (h.moves u t e c);
+      barred = λ u t e b. go u t e (h.barred u t e b);
+      stays = λ t b. by_bars (λ a. Stays ways (g a) → Stays ways (cond (is_sign s.Minus a) (Go (negative z mine)) (g a))) (λ k. k) (λ k. k) (z.item t) b (h.stays t b);
+    }
+      where
+        go : (u : One) (t : Two) → v.item u ≡ z.item t → SM (f (seen v u)) (g (seen z t)) → SM (cond (is_sign s.Minus (seen v u)) (Go (negative v holds)) (f (seen v u))) (cond (is_sign s.Minus (seen z t)) (Go (negative z mine)) (g (seen z t)))
+        go u t e d =
+            subst (λ (x : Item). SM (f (what_at x)) (g (seen z t)) → SM (cond (is_sign s.Minus (what_at x)) (Go (negative v holds)) (f (what_at x))) (cond (is_sign s.Minus (seen z t)) (Go (negative z mine)) (g (seen z t)))) (sym e)
+            (λ k. if_same (is_sign s.Minus (seen z t)) (negative v holds) (negative z mine) (f (seen z t)) (g (seen z t)) negative_same k) d
+
+    value_same : S (value v holds) (value z mine)
     unfolding value
     value_same =
-        choice_alike ways (value_by v holds) (value_by z holds)
-        (by_what (λ a. cond (is_sign s.Minus a) (Go (negative v holds)) (go_with (λ k. pure (pos k)) (held holds a))) (λ a. cond (is_sign s.Minus a) (Go (negative z holds)) (go_with (λ k. pure (pos k)) (held holds a)))
-        (λ a. if_same (is_sign s.Minus a) (negative v holds) (negative z holds) _ _ negative_same (with_same (λ k. pure (pos k)) (λ k. pure (pos k)) (λ k. pure_alike ways (pos k)) (held holds a))) tt tt)
+        choice_alike ways (value_by v holds) (value_by z mine) (value_alike (λ a. go_with (λ k. pure (pos k)) (held holds a)) (λ a. go_with (λ k. pure (pos k)) (held mine a)) (held_same (λ k. pos k)))
 
-    values_same : S (values v holds) (values z holds)
+    values_same : S (values v holds) (values z mine)
     unfolding values
-    values_same = commas_same (value v holds) (value z holds) value_same
+    values_same = commas_same (value v holds) (value z mine) value_same
 
     -- ---- ints
 
     module _ (l : ℕ) (n : List ℕ) where
-      array_end_same : (len : ℕ) → S (array_end v holds l n len) (array_end z holds l n len)
+      array_end_same : (len : ℕ) → S (array_end v holds l n len) (array_end z mine l n len)
       unfolding array_end
       array_end_same len =
-          option_alike ways (λ u. when (is v s.Assign u) (braced v (values v holds) >>= λ all. pure (several l n len all))) (λ t. when (is z s.Assign t) (braced z (values z holds) >>= λ all. pure (several l n len all))) (several l n len [])
-          (at_sign s.Assign _ _ (made_same (braced v (values v holds)) (braced z (values z holds)) (several l n len) (braced_same (values v holds) (values z holds) values_same)))
+          option_alike ways (λ u. when (is v s.Assign u) (braced v (values v holds) >>= λ all. pure (several l n len all))) (λ t. when (is z s.Assign t) (braced z (values z mine) >>= λ all. pure (several l n len all))) (several l n len [])
+          (at_sign s.Assign _ _ (made_same (braced v (values v holds)) (braced z (values z mine)) (several l n len) (braced_same (values v holds) (values z mine) values_same)))
 
-      array_same : S (array_behind v holds l n) (array_behind z holds l n)
+      array_same : S (array_behind v holds l n) (array_behind z mine l n)
       unfolding array_behind
-      array_same = bind_alike ways (length_behind v) (length_behind z) (λ len. array_end v holds l n len) (λ len. array_end z holds l n len) length_same array_end_same
+      array_same = bind_alike ways (length_behind v) (length_behind z) (λ len. array_end v holds l n len) (λ len. array_end z mine l n len) length_same array_end_same
 
-      scalar_same : S (scalar_behind v holds l n) (scalar_behind z holds l n)
+      scalar_same : S (scalar_behind v holds l n) (scalar_behind z mine l n)
       unfolding scalar_behind
-      scalar_same = made_same (value v holds) (value z holds) (scalar l n) value_same
+      scalar_same = made_same (value v holds) (value z mine) (scalar l n) value_same
 
-      cell_behind_same : S (cell_behind v holds l n) (cell_behind z holds l n)
+      cell_behind_same : S (cell_behind v holds l n) (cell_behind z mine l n)
       unfolding cell_behind
       cell_behind_same =
-          option_alike ways (cell_by v holds l n) (cell_by z holds l n) (scalar l n (pos 0))
-          (by_what (λ a. cond (is_sign s.Assign a) (Go (scalar_behind v holds l n)) (when (is_sign s.LeftBracket a) (array_behind v holds l n))) (λ a. cond (is_sign s.Assign a) (Go (scalar_behind z holds l n)) (when (is_sign s.LeftBracket a) (array_behind z holds l n)))
-          (λ a. if_same (is_sign s.Assign a) (scalar_behind v holds l n) (scalar_behind z holds l n) _ _ scalar_same (when_same (is_sign s.LeftBracket a) (array_behind v holds l n) (array_behind z holds l n) array_same)) tt tt)
+          option_alike ways (cell_by v holds l n) (cell_by z mine l n) (scalar l n (pos 0))
+          (by_what (λ a. cond (is_sign s.Assign a) (Go (scalar_behind v holds l n)) (when (is_sign s.LeftBracket a) (array_behind v holds l n))) (λ a. cond (is_sign s.Assign a) (Go (scalar_behind z mine l n)) (when (is_sign s.LeftBracket a) (array_behind z mine l n)))
+          (λ a. if_same (is_sign s.Assign a) (scalar_behind v holds l n) (scalar_behind z mine l n) _ _ scalar_same (when_same (is_sign s.LeftBracket a) (array_behind v holds l n) (array_behind z mine l n) array_same)) tt tt)
 
-    cell_same : S (cell v holds) (cell z holds)
+    cell_same : S (cell v holds) (cell z mine)
     unfolding cell
     cell_same =
-        choice_alike ways (λ u. go_named (cell_behind v holds (line v u)) (cell_name (seen v u))) (λ t. go_named (cell_behind z holds (line z t)) (cell_name (seen z t)))
-        (by_item (λ t. go_named (cell_behind v holds (line_in t)) (cell_name (what_at t))) (λ t. go_named (cell_behind z holds (line_in t)) (cell_name (what_at t)))
-        (λ t. named_same (cell_behind v holds (line_in t)) (cell_behind z holds (line_in t)) (cell_behind_same (line_in t)) (cell_name (what_at t)))
-        (λ t b. by_bars (λ a. Stays ways (go_named (cell_behind z holds (line_in t)) (cell_name a))) tt tt t b))
+        choice_alike ways (λ u. go_named (cell_behind v holds (line v u)) (cell_name (seen v u))) (λ t. go_named (cell_behind z mine (line z t)) (cell_name (seen z t)))
+        (by_item (λ t. go_named (cell_behind v holds (line_in t)) (cell_name (what_at t))) (λ t. go_named (cell_behind z mine (line_in t)) (cell_name (what_at t)))
+        (λ t. named_same (cell_behind v holds (line_in t)) (cell_behind z mine (line_in t)) (cell_behind_same (line_in t)) (cell_name (what_at t)))
+        (λ t b. by_bars (λ a. Stays ways (go_named (cell_behind z mine (line_in t)) (cell_name a))) tt tt t b))
 
-    cells_same : (l : ℕ) (n : List ℕ) → S (cells_behind v holds l n) (cells_behind z holds l n)
+    cells_same : (l : ℕ) (n : List ℕ) → S (cells_behind v holds l n) (cells_behind z mine l n)
     unfolding cells_behind
     cells_same l n =
-        bind_alike ways (cell_behind v holds l n) (cell_behind z holds l n) (λ x. ended v s.Semicolon (more_cells v holds (with_declared no_ints x))) (λ x. ended z s.Semicolon (more_cells z holds (with_declared no_ints x))) (cell_behind_same l n)
-        (λ x. ended_same s.Semicolon (more_cells v holds (with_declared no_ints x)) (more_cells z holds (with_declared no_ints x)) (more_same (cell v holds) (cell z holds) with_declared (with_declared no_ints x) cell_same))
+        bind_alike ways (cell_behind v holds l n) (cell_behind z mine l n) (λ x. ended v s.Semicolon (more_cells v holds (with_declared no_ints x))) (λ x. ended z s.Semicolon (more_cells z mine (with_declared no_ints x))) (cell_behind_same l n)
+        (λ x. ended_same s.Semicolon (more_cells v holds (with_declared no_ints x)) (more_cells z mine (with_declared no_ints x)) (more_same (cell v holds) (cell z mine) with_declared (with_declared no_ints x) cell_same))
 
   -- ---- mutexes and conditions
 
@@ -309,11 +332,11 @@ module _ {One Two : Type 0} (v : Sight One) (z : Sight Two) (like : Like v z) (L
 
   -- ---- what `int` begins
 
-  head_or_cells_same : (holds : ℕ → Bool) (m : ℕ) (n : List ℕ) (p : Parser One Head) (q : Parser Two Head) → S p q → S (head_or_cells v holds m n p) (head_or_cells z holds m n q)
+  head_or_cells_same : (holds mine : ℕ → Bool) → ((k : ℕ) → nat_lt k 2147483648 ≡ true → holds k ≡ mine k) → (m : ℕ) (n : List ℕ) (p : Parser One Head) (q : Parser Two Head) → S p q → S (head_or_cells v holds m n p) (head_or_cells z mine m n q)
   unfolding head_or_cells
-  head_or_cells_same holds m n p q h =
-      commit_alike ways (λ u. when (is v s.LeftParenthesis u) (by_head p)) (λ t. when (is z s.LeftParenthesis t) (by_head q)) (by_cells (cells_behind v holds m n)) (by_cells (cells_behind z holds m n))
-      (at_sign s.LeftParenthesis (by_head p) (by_head q) (made_same p q (λ h. begun.Head h) h)) (made_same (cells_behind v holds m n) (cells_behind z holds m n) (λ all. begun.Cells all) (cells_same holds m n))
+  head_or_cells_same holds mine small m n p q h =
+      commit_alike ways (λ u. when (is v s.LeftParenthesis u) (by_head p)) (λ t. when (is z s.LeftParenthesis t) (by_head q)) (by_cells (cells_behind v holds m n)) (by_cells (cells_behind z mine m n))
+      (at_sign s.LeftParenthesis (by_head p) (by_head q) (made_same p q (λ h. begun.Head h) h)) (made_same (cells_behind v holds m n) (cells_behind z mine m n) (λ all. begun.Cells all) (cells_same holds mine small m n))
 
   capacities_or_head_same : (first : Bool) (l m : ℕ) → S (capacities_or_head v first l m) (capacities_or_head z first l m)
   unfolding capacities_or_head
@@ -326,14 +349,14 @@ module _ {One Two : Type 0} (v : Sight One) (z : Sight Two) (like : Like v z) (L
       go true = when_same first (by_capacities (capacities v m)) (by_capacities (capacities z m)) (made_same (capacities v m) (capacities z m) (λ c. begun.Capacities c) (capacities_same m))
       go false = tt
 
-  pub behind_int_same : (holds : ℕ → Bool) (first : Bool) (l : ℕ) → S (behind_int v holds first l) (behind_int z holds first l)
+  pub behind_int_same : (holds mine : ℕ → Bool) → ((k : ℕ) → nat_lt k 2147483648 ≡ true → holds k ≡ mine k) → (first : Bool) (l : ℕ) → S (behind_int v holds first l) (behind_int z mine first l)
   unfolding behind_int
-  behind_int_same holds first l =
-      choice_alike ways (λ u. behind_int_by v holds first l (line v u) (seen v u)) (λ t. behind_int_by z holds first l (line z t) (seen z t))
-      (by_item (λ t. behind_int_by v holds first l (line_in t) (what_at t)) (λ t. behind_int_by z holds first l (line_in t) (what_at t)) (λ t. go (line_in t) (what_at t))
-      (λ t b. by_bars (λ a. Stays ways (behind_int_by z holds first l (line_in t) a)) tt tt t b))
+  behind_int_same holds mine small first l =
+      choice_alike ways (λ u. behind_int_by v holds first l (line v u) (seen v u)) (λ t. behind_int_by z mine first l (line z t) (seen z t))
+      (by_item (λ t. behind_int_by v holds first l (line_in t) (what_at t)) (λ t. behind_int_by z mine first l (line_in t) (what_at t)) (λ t. go (line_in t) (what_at t))
+      (λ t b. by_bars (λ a. Stays ways (behind_int_by z mine first l (line_in t) a)) tt tt t b))
     where
-      go : (m : ℕ) (a : What) → SM (behind_int_by v holds first l m a) (behind_int_by z holds first l m a)
-      go m (What.Fixed w.Main) = head_or_cells_same holds m (spelling w.Main) (main_head v l) (main_head z l) (main_same l)
+      go : (m : ℕ) (a : What) → SM (behind_int_by v holds first l m a) (behind_int_by z mine first l m a)
+      go m (What.Fixed w.Main) = head_or_cells_same holds mine small m (spelling w.Main) (main_head v l) (main_head z l) (main_same l)
       go m (What.Fixed w.Capacities) = capacities_or_head_same first l m
-      go m a = named_same (function_or_cells v holds l m) (function_or_cells z holds l m) (λ n. head_or_cells_same holds m n (int_head v l n) (int_head z l n) (int_same l n)) (name_of a)
+      go m a = named_same (function_or_cells v holds l m) (function_or_cells z mine l m) (λ n. head_or_cells_same holds mine small m n (int_head v l n) (int_head z l n) (int_same l n)) (name_of a)

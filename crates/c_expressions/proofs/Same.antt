@@ -1,5 +1,5 @@
 -- Tokens of two types that are seen alike are read alike, up to a definition.
-use Rattle.std.proofs.Common.{◌≡◌, ℕ, zero, suc, ◌-◌, Bool, true, false, cond, ◌||◌, if◌then◌else◌, List, ◌∷◌, length, Option, Some, None, refl, sym, ap, subst}
+use Rattle.std.proofs.Common.{◌≡◌, ℕ, zero, suc, ◌-◌, nat_lt, Bool, true, false, cond, ◌||◌, if◌then◌else◌, List, ◌∷◌, length, Option, Some, None, refl, sym, ap, subst}
 use Rattle.std.specs.Option.{is_some}
 use Rattle.c_lexer.specs.declared.token.Sign.{Sign}
 use Rattle.c_lexer.specs.declared.token.Sign.TheVariants as s
@@ -11,7 +11,7 @@ use Rattle.c_grammar.specs.Levels.{Tall, tall, over}
 use Rattle.c_grammar.specs.Expressions.{loosest, joined}
 use Rattle.parse_laws.specs.Parser.{Parser, and_then, ◌>>=◌, pure, refuse, Move, Stop, moved, when, must, deeper}
 use Rattle.parse_laws.specs.Operators.{chain}
-use Rattle.parse_laws.proofs.Alike.{Ways, Along, ended, token, barred, Both, Alike, AlikeMove, AlikeMoves, AlikeTest, Stays, pure_alike, refuse_alike, commit_alike, choice_alike, option_alike, when_alike, test_alike, must_alike, bind_alike, deeper_alike, level_alike, fault_alike, loop_alike, chain_alike}
+use Rattle.parse_laws.proofs.Alike.{Ways, Along, ended, token, barred, Both, Alike, AlikeMove, AlikeMoves, AlikeTest, Stays, alike_moves, pure_alike, refuse_alike, commit_alike, choice_alike, option_alike, when_alike, test_alike, must_alike, bind_alike, deeper_alike, level_alike, fault_alike, loop_alike, chain_alike}
 use Rattle.c_expressions.specs.declared.token.Inner.{Inner}
 use Rattle.c_expressions.specs.declared.token.Inner.TheVariants as i
 use Rattle.c_expressions.specs.Words.{is_sign, Head, head, inner}
@@ -22,6 +22,13 @@ abbrev pub bars : Item → Bool
 bars (at l What.Definition) = true
 bars (at l What.Repeated) = true
 bars _ = false
+
+-- none, and no number that is too large
+abbrev pub clear : Item → Bool
+clear (at l What.Definition) = false
+clear (at l What.Repeated) = false
+clear (at l (What.Number value)) = nat_lt value 2147483648
+clear _ = true
 
 -- the same words have no definition
 pub record Like {One Two : Type 0} (v : Sight One) (z : Sight Two) : Type 0 where
@@ -41,7 +48,7 @@ by_bars P d r (at l _) b = absurd cc
 
 module _ {One Two : Type 0} (v : Sight One) (z : Sight Two) (like : Like v z) (Later : List One → List Two → Type 0) (long : (x : List One) (y : List Two) → Later x y → length x ≡ length y) where
   abbrev pub ways : Ways One Two Item
-  ways = record { one = v.item; two = z.item; bars = bars; Later = Later; long = long }
+  ways = record { one = v.item; two = z.item; clear = clear; bars = bars; Later = Later; long = long }
 
   abbrev pub S : {A : Type 0} → Parser One A → Parser Two A → Type 0
   S p q = Alike ways p q
@@ -54,10 +61,7 @@ module _ {One Two : Type 0} (v : Sight One) (z : Sight Two) (like : Like v z) (L
 
   -- moves by what a token is
   pub by_what : {A : Type 0} (k : What → Move One A) (m : What → Move Two A) → ((a : What) → SM (k a) (m a)) → Stays ways (m What.Definition) → Stays ways (m What.Repeated) → SMs (λ u. k (seen v u)) (λ t. m (seen z t))
-  by_what k m h d r = record {
-    moves = λ u t e. subst (λ (x : Item). SM (k (what_at x)) (m (seen z t))) (sym e) (h (seen z t));
-    stays = λ t b. by_bars (λ a. Stays ways (m a)) d r (z.item t) b;
-  }
+  by_what k m h d r = alike_moves ways (λ u t e. subst (λ (x : Item). SM (k (what_at x)) (m (seen z t))) (sym e) (h (seen z t))) (λ t b. by_bars (λ a. Stays ways (m a)) d r (z.item t) b)
 
   pub test_by_what : (f : What → Bool) → f What.Definition ≡ false → f What.Repeated ≡ false → AlikeTest ways (λ u. f (seen v u)) (λ t. f (seen z t))
   test_by_what f d r = record { same = λ u t e. ap (λ (x : Item). f (what_at x)) e; passes = λ t b. by_bars (λ a. f a ≡ false) d r (z.item t) b }
@@ -109,7 +113,7 @@ module _ {One Two : Type 0} (v : Sight One) (z : Sight Two) (like : Like v z) (L
 
       go : {m : List One} {n : List Two} → Along ways m n → Both ways (close v x b p m) (close z x b q n)
       go ended = (refl, ended)
-      go (token {u = u} {t = t} {x = m} {y = n} e d) = taken (is v x u) (is z x t) b u t m n ((is_same x).same u t e) (token e d) d
+      go (token {u = u} {t = t} {x = m} {y = n} e c d) = taken (is v x u) (is z x t) b u t m n ((is_same x).same u t e) (token e c d) d
       go (barred {u = u} {t = t} {x = m} {y = n} e c d) = stopped (is v x u) (is z x t) u t m n ((is_same x).same u t e) ((is_same x).passes t c) (barred e c d)
 
   -- ---- casts
@@ -145,8 +149,8 @@ module _ {One Two : Type 0} (v : Sight One) (z : Sight Two) (like : Like v z) (L
         (λ e. close_same s.RightParenthesis (fits r e.levels) (pure (wrapped e)) (pure (wrapped e)) (pure_alike ways (wrapped e)))
 
     -- the token that was read before is put back
-    pointer_first_same : (u : One) (t : Two) → v.item u ≡ z.item t → S (pointer_first v r lower u) (pointer_first z r under t)
-    pointer_first_same u t e = go r
+    pointer_first_same : (u : One) (t : Two) → v.item u ≡ z.item t → clear (z.item t) ≡ true → S (pointer_first v r lower u) (pointer_first z r under t)
+    pointer_first_same u t e c = go r
       where
         goes_same : (u : One) (t : Two) → v.item u ≡ z.item t → goes_on v u ≡ goes_on z t
         goes_same u t e = ap (λ (x : Item). is_sign s.LeftBracket (what_at x) || is_some (operator_of (what_at x))) e
@@ -158,29 +162,31 @@ module _ {One Two : Type 0} (v : Sight One) (z : Sight Two) (like : Like v z) (L
 
         go : (r : ℕ) → S (pointer_first v r lower u) (pointer_first z r under t)
         go zero = λ x y d. (fault_alike ways (goes_on v) (goes_on z) goes_same x y d, d)
-        go (suc m) = λ x y d. inside (suc m) (lower loosest) (under loosest) (h loosest) (u ∷ x) (t ∷ y) (token e d)
+        go (suc m) = λ x y d. inside (suc m) (lower loosest) (under loosest) (h loosest) (u ∷ x) (t ∷ y) (token e c d)
 
-    pointer_same : (cast : Parser One (Tall Expr)) (its : Parser Two (Tall Expr)) → S cast its → (u : One) (t : Two) → v.item u ≡ z.item t → S (pointer v r lower cast u) (pointer z r under its t)
+    pointer_same : (cast : Parser One (Tall Expr)) (its : Parser Two (Tall Expr)) → S cast its → (u : One) (t : Two) → v.item u ≡ z.item t → clear (z.item t) ≡ true → S (pointer v r lower cast u) (pointer z r under its t)
     unfolding pointer
-    pointer_same cast its d u t e =
+    pointer_same cast its d u t e c =
         commit_alike ways (λ a. when (is v s.RightParenthesis a) cast) (λ a. when (is z s.RightParenthesis a) its) (pointer_first v r lower u) (pointer_first z r under t) (test_alike ways (is v s.RightParenthesis) (is z s.RightParenthesis) cast its (is_same s.RightParenthesis) d)
-        (pointer_first_same u t e)
+        (pointer_first_same u t e c)
 
     opened_same : (long next : Parser One (Tall Expr)) (its other : Parser Two (Tall Expr)) → S long its → S next other → S (opened v r lower long next) (opened z r under its other)
     unfolding opened
     opened_same long next its other d f =
         commit_alike ways (λ u. opened_by v r lower long next u (inner (seen v u))) (λ t. opened_by z r under its other t (inner (seen z t))) (closed v r (expression_in v r lower)) (closed z r (expression_in z r under))
         (record {
-          moves = λ u t e. subst (λ (x : Item). SM (opened_by v r lower long next u (inner (what_at x))) (opened_by z r under its other t (inner (seen z t)))) (sym e) (go u t e (inner (seen z t)));
+          moves = λ u t e c. subst (λ (x : Item). SM (opened_by v r lower long next u (inner (what_at x))) (opened_by z r under its other t (inner (seen z t)))) (sym e) (go u t e c (inner (seen z t)));
+          barred = λ u t e b. subst (λ (x : Item). SM (opened_by v r lower long next u (inner (what_at x))) (opened_by z r under its other t (inner (seen z t)))) (sym e)
+              (by_bars (λ a. SM (opened_by v r lower long next u (inner a)) (opened_by z r under its other t (inner a))) tt tt (z.item t) b);
           stays = λ t b. by_bars (λ a. Stays ways (opened_by z r under its other t (inner a))) tt tt (z.item t) b;
         })
         (closed_same (expression_in v r lower) (expression_in z r under) expression_in_same)
       where
-        go : (u : One) (t : Two) → v.item u ≡ z.item t → (x : Inner) → SM (opened_by v r lower long next u x) (opened_by z r under its other t x)
-        go u t e i.Int = when_alike ways v.casts z.casts (int_cast v) (int_cast z) like.casts int_cast_same
-        go u t e i.Long = sign_same s.RightParenthesis long its d
-        go u t e i.Pointer = pointer_same next other f u t e
-        go u t e i.Other = tt
+        go : (u : One) (t : Two) → v.item u ≡ z.item t → clear (z.item t) ≡ true → (x : Inner) → SM (opened_by v r lower long next u x) (opened_by z r under its other t x)
+        go u t e c i.Int = when_alike ways v.casts z.casts (int_cast v) (int_cast z) like.casts int_cast_same
+        go u t e c i.Long = sign_same s.RightParenthesis long its d
+        go u t e c i.Pointer = pointer_same next other f u t e c
+        go u t e c i.Other = tt
 
     may_same : may_open v r ≡ may_open z r
     may_same = go r

@@ -1,5 +1,5 @@
 -- What a program is at a moment of a run.
-use Rattle.std.specs.Prelude.{ℕ, ℤ, pos, ◌-◌, Bool, false, List, [], ◌∷◌, ◌++◌, length, map, flat_map, replicate}
+use Rattle.std.specs.Prelude.{ℕ, ℤ, pos, ◌-◌, Bool, false, List, [], ◌∷◌, ◌++◌, length, map, flat_map, replicate, slice_set}
 use Rattle.std.specs.declared.option.Option.{Option}
 use Rattle.std.specs.Prelude.{None}
 use Rattle.std.specs.FinMap as finite
@@ -64,3 +64,11 @@ start p input = record {
   tokens = map (λ capacity. replicate (thread_count p) 0) p.monitors;
   threads = Running (frame finite.empty (main_body p) ∷ []) ∷ replicate (length (creations p)) NotBegun;
 }
+
+-- the state in which a thread has this status
+abbrev pub with_status : State → ℕ → Status → State
+with_status s t status = record s { threads = slice_set s.threads t status }
+
+-- the state in which a thread goes on with these frames
+abbrev pub goes_on : State → ℕ → List Frame → State
+goes_on s t frames = with_status s t (Running frames)

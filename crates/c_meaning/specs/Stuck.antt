@@ -5,7 +5,7 @@ use Rattle.c_tree.specs.Bare as bare
 use Rattle.c_tree.specs.Bare.{Stmt, Stmts, Nil, Cons, Program}
 use Rattle.c_tree.specs.Numbering.{mutex_count, monitor_resource}
 use Rattle.c_meaning.specs.State.{Locals, Frame, Status, NotBegun, Running, Waiting, Reacquiring, Ended, State}
-use Rattle.c_meaning.specs.Step.{mutex_at}
+use Rattle.c_meaning.specs.Places.{mutex_at}
 use Rattle.c_meaning.specs.Run.{Reached}
 
 -- the resource that a statement acquires, where its place is defined

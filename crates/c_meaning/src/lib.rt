@@ -7,8 +7,10 @@ ghost use Rattle.c_tree.specs.Lined.{bare_program};
 ghost use Rattle.c_tree.specs.FirstForm.{is_first_form, first_nested};
 ghost use Rattle.c_meaning.specs.Stuck.{NeverStuck};
 
+mod laws;
 mod samples;
 
+pub use laws::{a_step_is_one_of_three, stuck_sets_unite};
 pub use samples::{
     crossing_locks_get_stuck, threads_take_turns, unlocking_for_another_is_undefined,
 };
@@ -32,6 +34,41 @@ pub struct Event {
     pub thread: u32,
     /// What happens to it.
     pub kind: EventKind,
+}
+
+/// What an event did.
+#[derive(Clone, Copy, Debug, PartialEq, Eq)]
+pub enum Did {
+    /// It began this thread.
+    Create(u32),
+    /// It saw that this thread has ended.
+    Join(u32),
+    /// It locked this mutex.
+    Lock(u32),
+    /// It unlocked this mutex.
+    Unlock(u32),
+    /// It took a token of this monitor.
+    Take(u32),
+    /// It gave a token of this monitor back.
+    Give(u32),
+    /// It released this mutex and waits.
+    Wait(u32),
+    /// It was woken without a signal.
+    Wake,
+    /// It acquired this mutex again, after a wait.
+    Retake(u32),
+    /// It signalled, and woke this thread, or none.
+    Signal(Option<u32>),
+    /// It woke all that wait on a condition.
+    Broadcast,
+    /// It read a number, or found none.
+    Read,
+    /// It printed.
+    Print,
+    /// Its thread ended.
+    End,
+    /// It did anything else.
+    Step,
 }
 
 /// No state that a program of the first form reaches, on any input and by any schedule, has a

@@ -1,5 +1,5 @@
-pub mod Includes
-pub mod Pieces
-pub mod Productions
-pub mod Reading
-pub mod WordKinds
+pub mod AnyEnd
+pub mod Open
+pub mod Causes
+pub mod Parses
+pub mod OneAnswer

@@ -1,4 +1,2 @@
-pub mod Grammar
-pub mod Lexing
-pub mod Spells
-pub mod Tokens
+pub mod Answer
+pub mod Parsed

@@ -1,22 +1,18 @@
-//! Texts of the first form to trees.
+//! Texts to trees.
 //!
-//! A text of the first form declares ints and mutexes, thread functions that add to ints and lock
-//! and unlock mutexes, and a main that creates and joins threads. `parse` splits the text into
-//! tokens, reads a program from them, and asks whether its tree meets the conditions of the first
-//! form. What a text spells is defined in `specs/`: `Tokens` and `Lexing` say which tokens a text
-//! consists of, `Grammar` which tokens spell which program, and `Spells` puts them together.
+//! [`parse`] reads the program that a text spells, by C's lexical rules and its syntax (ISO/IEC 9899:1999), both
+//! narrowed to the tool's C; it names the first token with which a text can't go on, or whose program nests too deep.
+//! It is made of parts that stand below: the tokens of a text with the words that are told apart (`c_tokens`), and
+//! the parser of programs over them (`c_programs`). What a text spells is defined in `c_lexer` and `c_grammar`; which
+//! answer has which cause stands in `specs/`.
 #![tactic(auto)]
 
-mod cursor;
 mod error;
-mod lexer;
-mod main_function;
-mod outer;
+mod laws;
 mod parser;
-mod statements;
-mod thread;
-mod token;
-mod words;
+#[cfg(test)]
+mod tests;
 
 pub use error::ParseError;
+pub use laws::one_program;
 pub use parser::parse;

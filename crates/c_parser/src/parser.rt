@@ -1,162 +1,124 @@
-// Tokens to a tree.
-ghost use Rattle.std.specs.Prelude.{◌≡◌, ◌<◌, ◌+◌, ◌^◌, length, IfOk, IsTrue};
-ghost use Rattle.c_tree.specs.Lined.{program_of, bare_program};
-ghost use Rattle.c_tree.specs.FirstForm as tree;
-ghost use Rattle.c_parser.specs.Grammar.{SpellsProgram};
-ghost use Rattle.c_parser.specs.Spells.{Spells, newlines};
+//! The parser of texts.
 
-use crate::cursor::Cursor;
+ghost use Rattle.std.specs.Prelude.{◌≡◌, ◌<◌, ◌≤◌, ◌^◌, ℕ, length, Ok, Err};
+ghost use Rattle.std.specs.List.{count_by};
+ghost use Rattle.c_lexer.specs.declared.token.LexError.{LexError as AnyLexError};
+ghost use Rattle.c_lexer.specs.Classes.{is_newline};
+ghost use Rattle.c_lexer.specs.Tokens.{line};
+ghost use Rattle.c_tree.specs.Lined.{program_of, Program as PlainProgram};
+ghost use Rattle.c_tokens.specs.Reading.{IsRead};
+ghost use Rattle.c_parser.specs.declared.error.ParseError.TheVariants.{Lex, Syntax, TooDeep, TooManyTokens};
+ghost use Rattle.c_parser.specs.Answer.{shown, fault_at, when_read, when_failed, when_left};
+ghost use Rattle.c_parser.specs.Parsed.{Parsed, SpelledBy, RefusedBy, FailsOnLine, TooDeepOnLine, GoesOnTooLong, Is};
+
 use crate::error::ParseError;
-use crate::lexer::tokens;
-use crate::main_function::{Main, main_function};
-use crate::outer::{Declarations, outer};
-use crate::thread::threads;
-use crate::token::Token;
+use c_expressions::tall::Tall;
+use c_expressions::token::Marked;
+use c_programs::program::program;
+use c_tokens::{End, Tokens, read_tokens};
 use c_tree::Program;
-use first_form::is_first_form;
-use sqlite_items::Items;
+use parse_laws::fault::{Fault, Refusal};
 use std::alloc::Global;
 
-/// The line behind the last newline of a text, counted from 1.
-fn end_line(text: &[u8]) -> u32
-    requires { length text.now < 2 ^ 31 }
-    ensures { result ≡ 1 + newlines text.now }
-{
-    1 + text.iter().filter(|b| **b == b'\n').count() as u32
-}
+/// How many levels a program may take.
+const LEVELS: u8 = 64;
 
-/// The program that tokens spell, of which nothing is left.
-fn program(alloc: Global, tokens: &[Token], end_line: u32) -> Result<Program, ParseError>
-    ensures spelled { IfOk result (λ p. SpellsProgram tokens.now (program_of p)) }
-    ensures line { IfOk result (λ p. p.end_line ≡ end_line) }
+/// A fault of a token on this line.
+fn fault_at(fault: Fault, line: u32) -> ParseError
+    ensures { result ≡ fault_at fault line }
 {
-    let mut cursor = Cursor { rest: tokens };
-    let Declarations { ints, mutexes } = outer(alloc, &mut cursor)?;
-    let mut functions = threads(alloc, &mut cursor)?;
-    let Main { threads, function } = main_function(alloc, &mut cursor)?;
-    if !cursor.rest.is_empty() {
-        return Err(ParseError::NotBuilt);
+    match fault {
+        Fault::Syntax => ParseError::Syntax { line },
+        Fault::TooDeep => ParseError::TooDeep { line },
     }
-    functions.push(function)?;
-    Ok(Program {
-        ints,
-        arrays: Items::new(alloc),
-        mutexes,
-        conds: Items::new(alloc),
-        threads,
-        monitors: Items::new(alloc),
-        functions,
-        cap_len: 0,
-        cap_line: 0,
-        end_line,
-    })
 }
 
-/// The program, with its lines, that a text of the first form spells.
+/// All tokens were read as a program. It is the answer where the text ends there.
+fn when_read(program: Program, end: End) -> Result<Program, ParseError>
+    ensures { shown result ≡ when_read (program_of program) end }
+{
+    match end {
+        End::Text => Ok(program),
+        End::Refused(error) => Err(ParseError::Lex(error)),
+        End::Longer => Err(ParseError::TooManyTokens),
+    }
+}
+
+/// All tokens were read, and they are no program, in a text that ends on this line.
+fn when_failed(end: End, line: u32) -> ParseError
+    ensures { result ≡ when_failed end line }
+{
+    match end {
+        End::Text => ParseError::Syntax { line },
+        End::Refused(error) => ParseError::Lex(error),
+        End::Longer => ParseError::TooManyTokens,
+    }
+}
+
+/// A fault at the first of these tokens, or behind the last one where there are none.
+fn when_left(fault: Fault, rest: &[Marked], end: End, line: u32) -> ParseError
+    ensures { result ≡ when_left fault rest.now end line }
+{
+    match rest.first() {
+        Some(token) => fault_at(fault, token.line),
+        None => when_failed(end, line),
+    }
+}
+
+/// How many newlines a text has.
+fn newlines(text: &[u8]) -> usize
+    ensures count { result ≡ count_by is_newline text.now }
+    ensures few { result ≤ length text.now }
+{
+    text.iter().filter(|b| **b == b'\n').count()
+}
+
+/// The line of the end of a text, from 1.
+fn last_line(text: &[u8]) -> u32
+    requires { length text.now < 2 ^ 31 }
+    ensures { result ≡ line text.now }
+{
+    newlines(text) as u32 + 1
+}
+
+/// Reads the program of a text's tokens.
+fn parse_tokens(alloc: Global, text: &[u8], tokens: &Tokens) -> Result<Program, ParseError>
+    requires short { length text.now < 2 ^ 31 }
+    requires read { IsRead text.now tokens.now }
+    ensures { Parsed text.now (shown result) }
+{
+    let line = last_line(text);
+    match program(alloc, text, LEVELS, line, &tokens.marks) {
+        Ok((program, rest)) if rest.is_empty() => when_read(program.tree, tokens.end),
+        Ok((_, rest)) => Err(when_left(Fault::Syntax, rest, tokens.end, line)),
+        Err(Refusal::At(fault, rest)) => Err(when_left(fault, rest, tokens.end, line)),
+        Err(Refusal::Memory) => Err(ParseError::Memory),
+    }
+}
+
+/// Reads the program that a text spells, with the lines of the text.
 ///
-/// The text has fewer than 2^31 bytes. `NotBuilt` where the text isn't of the first form; `Memory`
-/// where there isn't enough memory.
+/// The text has fewer than 2^31 bytes. A program may take 64 levels: a statement of a function stands on the first,
+/// a statement of an arm one below its `if`, `while` or `for`, an expression one below its statement, and what stands
+/// in an operand, an index or parentheses one below that. A text may have 65,536 tokens. The answer is the first of
+/// these in the order of the text:
+///
+/// - `Lex`: the tokens so far begin a program within the levels, and the lexer refuses what follows.
+/// - `Syntax`: with the token on this line they begin no program. At the end of the text, whose line is one more than
+///   its newlines: they are no program.
+/// - `TooDeep`: with the token on this line they begin only programs that take more levels.
+/// - `TooManyTokens`: 65,536 tokens begin a program within the levels, and another token follows.
+///
+/// `Memory` may come at any time.
 pub fn parse(alloc: Global, text: &[u8]) -> Result<Program, ParseError>
     requires { length text.now < 2 ^ 31 }
-    ensures spelled { IfOk result (λ p. Spells text.now (program_of p)) }
-    ensures first_form { IfOk result (λ p. IsTrue (tree.is_first_form (bare_program (program_of p)))) }
+    ensures cause { Parsed text.now (shown result) }
+    ensures program { (p : PlainProgram) → SpelledBy text.now p → Is (shown result) (Ok p) }
+    ensures lex { (e : AnyLexError) → RefusedBy text.now e → Is (shown result) (Err (Lex e)) }
+    ensures syntax { (on : ℕ) → FailsOnLine text.now on → Is (shown result) (Err (Syntax on)) }
+    ensures too_deep { (on : ℕ) → TooDeepOnLine text.now on → Is (shown result) (Err (TooDeep on)) }
+    ensures too_many { GoesOnTooLong text.now → Is (shown result) (Err TooManyTokens) }
 {
-    let all = tokens(alloc, text)?;
-    let program = program(alloc, all.as_slice(), end_line(text))?;
-    if !is_first_form(alloc, &program)? {
-        return Err(ParseError::NotBuilt);
-    }
-    Ok(program)
-}
-
-#[cfg(test)]
-mod tests {
-    use super::*;
-    use std::test::Fail;
-
-    /// A whole program of the first form.
-    const PROGRAM: &[u8] = b"#include <pthread.h>
-pthread_mutex_t a = PTHREAD_MUTEX_INITIALIZER;
-int x;
-void *one(void *arg) {
-    pthread_mutex_lock(&a);
-    x = x + 12;
-    pthread_mutex_unlock(&a);
-    return NULL;
-}
-int main(void) {
-    pthread_t t[2];
-    pthread_create(&t[1], NULL, one, NULL);
-    pthread_join(t[1], NULL);
-    return 0;
-}
-";
-
-    fn read(alloc: Global, text: &[u8]) -> Result<Program, ParseError> {
-        if text.len() > 1000 {
-            return Err(ParseError::NotBuilt);
-        }
-        parse(alloc, text)
-    }
-
-    #[test]
-    fn reads_a_program(rt: HostRuntime) -> Result<(), Fail> {
-        let p = read(rt.alloc(), PROGRAM)?;
-        let x = p.ints.get(0).ok_or("an int")?;
-        assert_eq!(rt; x.name.as_slice(), b"x".as_slice());
-        assert_eq!(rt; x.line, 3);
-        let slot = p.threads.get(0).ok_or("an array of threads")?;
-        assert_eq!(rt; slot.len, Some(2));
-        assert_eq!(rt; slot.line, 11);
-        let one = p.functions.get(0).ok_or("a thread function")?;
-        assert_eq!(rt; one.name.as_slice(), b"one".as_slice());
-        assert_eq!(rt; one.end_line, 9);
-        assert_eq!(rt; one.body.len(), 4);
-        let unlock = one.body.get(2).ok_or("an unlock")?;
-        assert_eq!(rt; unlock.line, 7);
-        assert_eq!(rt; p.functions.len(), 2);
-        assert_eq!(rt; p.end_line, 16);
-        Ok(())
-    }
-
-    #[test]
-    fn tells_the_first_form(rt: HostRuntime) {
-        let texts: [(&[u8], bool); 14] = [
-            (b"int main(void) { return 0; }", true),
-            (b"/* c */ int main(void) { return 0; }", false),
-            (
-                b"int x; void *f(void *p) { x = x + 10; return NULL; } int main(void) { return 0; }",
-                true,
-            ),
-            (
-                b"int x; void *f(void *p) { x = x + 010; return NULL; } int main(void) { return 0; }",
-                false,
-            ),
-            (
-                b"int a23456789012345678901234567890123456789012345678901234567890123; int main(void) { return 0; }",
-                true,
-            ),
-            (
-                b"int a234567890123456789012345678901234567890123456789012345678901234; int main(void) { return 0; }",
-                false,
-            ),
-            (b"int inline_; int main(void) { return 0; }", true),
-            (b"int inline; int main(void) { return 0; }", false),
-            (b"int main(void) { return 0; } int x;", false),
-            (
-                b"\t #include \t<stdio.h> int x;\r\n#include<unistd.h>\nint main(void) { return 0; }",
-                true,
-            ),
-            (b"#include <string.h>\nint main(void) { return 0; }", false),
-            (
-                b"int x; #include <stdio.h>\nint main(void) { return 0; }",
-                false,
-            ),
-            (b"int x; int x; int main(void) { return 0; }", false),
-            (b"int main(void) { return 00; }", false),
-        ];
-        for (text, is_one) in texts {
-            assert_eq!(rt; read(rt.alloc(), text).is_ok(), is_one);
-        }
-    }
+    let tokens = read_tokens(alloc, text)?;
+    parse_tokens(alloc, text, &tokens)
 }

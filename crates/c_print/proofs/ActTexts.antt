@@ -7,8 +7,8 @@ use Rattle.c_tree.specs.declared.program.Kind.{Kind}
 use Rattle.c_tree.specs.declared.program.Kind.TheVariants as k
 use Rattle.c_tree.specs.Expressions.{Expr, Exprs, Place}
 use Rattle.c_tree.specs.Bare.{Stmts, Declare, Call, Read, Print, Create, Wait}
-use Rattle.c_print.specs.Expressions.{expression, expressions, place, is_binary, wrapped, followed, separated}
-use Rattle.c_print.specs.Statements.{called, address, with_null, assigned, initial, argument_cast, returned, simple, part, headed}
+use Rattle.c_canonical.specs.Expressions.{expression, expressions, place, is_binary, wrapped, followed, separated}
+use Rattle.c_canonical.specs.Statements.{called, address, with_null, assigned, initial, argument_cast, returned, simple, part, headed}
 use Rattle.c_print.proofs.Chains.{chain2, chain3, chain4, chain5, chain6, chain7}
 
 -- the end of a call

@@ -9,8 +9,8 @@ use Rattle.c_tree.specs.declared.stmt.Stmt as declared
 use Rattle.c_tree.specs.Expressions.{Expr}
 use Rattle.c_tree.specs.Bare.{Stmt, Stmts, If, While, For}
 use Rattle.c_tree.specs.Lined.{stmt_of, stmts_of, bare_stmt, bare_stmts}
-use Rattle.c_print.specs.Expressions.{expression}
-use Rattle.c_print.specs.Statements.{headed, block, deeper, is_chain, statement, statements, otherwise}
+use Rattle.c_canonical.specs.Expressions.{expression}
+use Rattle.c_canonical.specs.Statements.{headed, block, deeper, is_chain, statement, statements, otherwise}
 use Rattle.c_print.proofs.Chains.{chain2, chain3, chain4}
 use Rattle.c_print.proofs.Loops.{turn}
 use Rattle.c_print.proofs.ActTexts.{for_parts}

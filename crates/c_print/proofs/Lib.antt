@@ -5,7 +5,3 @@ pub mod ActTexts
 pub mod BlockTexts
 pub mod Shown
 pub mod ProgramTexts
-pub mod Parts
-pub mod ExpressionParts
-pub mod StatementParts
-pub mod ProgramParts

@@ -5,7 +5,7 @@ use Rattle.std.specs.List.{flat_map}
 use Rattle.std.proofs.lemmas.List.{drop_more, drop_all}
 use Rattle.c_tree.specs.declared.stmt.Stmt as declared
 use Rattle.c_tree.specs.Lined.{stmt_of, stmts_of, bare_stmt, bare_stmts}
-use Rattle.c_print.specs.Statements.{is_if, is_chain}
+use Rattle.c_canonical.specs.Statements.{is_if, is_chain}
 
 -- one turn
 pub turn_at : {X : Type 0} (T : List X → List ℕ) (xs : List X) (i : ℕ) (x d : X) (piece old now next : List ℕ) → i < length xs → x ≡ get_or xs i d

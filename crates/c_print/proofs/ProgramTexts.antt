@@ -7,9 +7,9 @@ use Rattle.c_layout.specs.Layout.{Item, text, word, sign, space, newline}
 use Rattle.c_layout.proofs.Readings.{text_append}
 use Rattle.c_tree.specs.declared.program.Kind.{Kind}
 use Rattle.c_tree.specs.Bare.{Cell, Array, Object, Slot, Function, Program}
-use Rattle.c_print.specs.Expressions.{followed, separated}
-use Rattle.c_print.specs.Statements.{statements}
-use Rattle.c_print.specs.Programs.{value, length_of, cell, values, array, initialisers, readied, object, mutex, condition, slot, monitor_call, capacity, monitors, result_type, parameter_type, parameter, parameters, function_head, function, declarations}
+use Rattle.c_canonical.specs.Expressions.{followed, separated}
+use Rattle.c_canonical.specs.Statements.{statements}
+use Rattle.c_canonical.specs.Programs.{value, length_of, cell, values, array, initialisers, readied, object, mutex, condition, slot, monitor_call, capacity, monitors, result_type, parameter_type, parameter, parameters, function_head, function, declarations}
 use Rattle.c_print.proofs.Chains.{chain2, chain3, chain4, chain5, chain6}
 use Rattle.c_print.proofs.Loops.{turn, turn_at}
 

@@ -9,7 +9,7 @@ use Rattle.c_tree.specs.declared.expr.Expr.TheVariants as v
 use Rattle.c_tree.specs.declared.expr.Expr.TheOpen as open_of
 use Rattle.c_tree.specs.declared.expr.Expr.TheFolds.{fold-roll-Expr}
 use Rattle.c_tree.specs.Expressions.{Expr, layer, expr_of, Element, Arg, Not, Minus, Binary}
-use Rattle.c_print.specs.Expressions.{expression, wrapped, spaced, is_binary, is_minus, strength, binding, operator}
+use Rattle.c_canonical.specs.Expressions.{expression, wrapped, spaced, is_binary, is_minus, strength, binding, operator}
 
 -- ---- the declared expressions, as the definitions see them
 

@@ -8,8 +8,8 @@ ghost use Rattle.c_tree.specs.declared.program.Kind.TheVariants as k;
 ghost use Rattle.c_tree.specs.Bare as bare;
 ghost use Rattle.c_tree.specs.Expressions.{expr_of, exprs_of, place_of, value_of, target_of};
 ghost use Rattle.c_tree.specs.Lined.{stmt_of, stmts_of, bare_stmt, bare_stmts};
-ghost use Rattle.c_print.specs.Expressions.{expression, expressions, followed, separated, is_binary, wrapped};
-ghost use Rattle.c_print.specs.Statements as spec;
+ghost use Rattle.c_canonical.specs.Expressions.{expression, expressions, followed, separated, is_binary, wrapped};
+ghost use Rattle.c_canonical.specs.Statements as spec;
 
 use crate::expressions::{expression, is_binary, operand, place};
 use crate::writing::{put, put_name, put_number};

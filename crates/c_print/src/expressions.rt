@@ -6,7 +6,7 @@ ghost use Rattle.c_layout.specs.Layout as tokens;
 ghost use Rattle.c_layout.specs.Layout.{text};
 ghost use Rattle.c_tree.specs.Expressions as tree;
 ghost use Rattle.c_tree.specs.Expressions.{expr_of, place_of};
-ghost use Rattle.c_print.specs.Expressions as spec;
+ghost use Rattle.c_canonical.specs.Expressions as spec;
 
 use crate::writing::{put, put_number};
 use c_tree::{Expr, Op, Place};

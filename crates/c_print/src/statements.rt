@@ -6,8 +6,8 @@ ghost use Rattle.c_layout.specs.Layout as tokens;
 ghost use Rattle.c_layout.specs.Layout.{text};
 ghost use Rattle.c_tree.specs.Expressions.{expr_of};
 ghost use Rattle.c_tree.specs.Lined.{stmt_of, stmts_of, bare_stmt, bare_stmts};
-ghost use Rattle.c_print.specs.Expressions as expressions;
-ghost use Rattle.c_print.specs.Statements as spec;
+ghost use Rattle.c_canonical.specs.Expressions as expressions;
+ghost use Rattle.c_canonical.specs.Statements as spec;
 
 use crate::acts::simple;
 use crate::expressions::expression;

@@ -23,7 +23,7 @@ word_or_is (y ∷ ws) other name x e = go (is_spelled name y) refl e (λ d. word
     go true d e h = inr (subst (λ (z : FixedWord). is_spelled name z ≡ true) (same e) d)
     go false d e h = h e
 
-spelled_so : (name : List ℕ) (x : FixedWord) → undefined_name name ≡ What.Fixed x → is_spelled name x ≡ true
+pub spelled_so : (name : List ℕ) (x : FixedWord) → undefined_name name ≡ What.Fixed x → is_spelled name x ≡ true
 spelled_so name x e = go (list_any (bytes_eq name) other_keywords) e
   where
     last : (What.Name name ≡ What.Fixed x) ⊎ (is_spelled name x ≡ true) → is_spelled name x ≡ true

@@ -13,10 +13,10 @@ use Rattle.c_grammar.specs.declared.words.FixedWord.TheVariants as w
 use Rattle.c_grammar.specs.Items.{What, Item, name_of, callee}
 use Rattle.c_grammar.specs.Levels.{Tall, alone, followed}
 use Rattle.parse_laws.specs.Parser.{Parser, ◌>>=◌, pure, Move, Stop, Deep, when, must}
-use Rattle.parse_laws.proofs.Alike.{Ways, token, Alike, AlikeMove, AlikeMoves, Stays, pure_alike, commit_alike, choice_alike, option_alike, test_alike, must_alike, bind_alike, then_alike, deeper_alike, loop_alike}
+use Rattle.parse_laws.proofs.Alike.{Ways, token, Alike, AlikeMove, AlikeMoves, Stays, alike_moves, pure_alike, commit_alike, choice_alike, option_alike, test_alike, must_alike, bind_alike, then_alike, deeper_alike, loop_alike}
 use Rattle.c_expressions.specs.Words.{is_sign}
 use Rattle.c_expressions.specs.Parsers.{Sight, what_at, seen, is, go_named, named, fits, close, operator_of, expression, place_behind, place, address, no_arguments, some_arguments, arguments, call_of, argument}
-use Rattle.c_expressions.proofs.Same.{Like, by_bars, bars, ways, by_what, test_by_what, is_same, sign_same, go_named_same, named_same, closes_same, close_same, expression_same, place_behind_same, place_same, address_same, some_arguments_same, arguments_same, argument_same}
+use Rattle.c_expressions.proofs.Same.{Like, by_bars, bars, clear, ways, by_what, test_by_what, is_same, sign_same, go_named_same, named_same, closes_same, close_same, expression_same, place_behind_same, place_same, address_same, some_arguments_same, arguments_same, argument_same}
 use Rattle.c_simple.specs.declared.token.Way.{Way}
 use Rattle.c_simple.specs.declared.token.Way.TheVariants as way
 use Rattle.c_simple.specs.declared.token.Routine.{Routine}
@@ -52,7 +52,7 @@ module _ {One Two : Type 0} (v : Sight One) (z : Sight Two) (like : Like v z) (L
 
   -- moves by the token and its line
   items : {B : Type 0} (k : Item → Move One B) (m : Item → Move Two B) → ((t : Item) → AM (k t) (m t)) → ((t : Item) → bars t ≡ true → Stays Y (m t)) → AMs (λ u. k (v.item u)) (λ t. m (z.item t))
-  items k m h c = record { moves = λ u t e. subst (λ (x : Item). AM (k x) (m (z.item t))) (sym e) (h (z.item t)); stays = λ t b. c (z.item t) b }
+  items k m h c = alike_moves Y (λ u t e. subst (λ (x : Item). AM (k x) (m (z.item t))) (sym e) (h (z.item t))) (λ t b. c (z.item t) b)
 
   go_with_same : {B C : Type 0} (p : C → Parser One B) (q : C → Parser Two B) → ((c : C) → A (p c) (q c)) → (o : Option C) → AM (go_with p o) (go_with q o)
   go_with_same p q h None = tt
@@ -73,29 +73,31 @@ module _ {One Two : Type 0} (v : Sight One) (z : Sight Two) (like : Like v z) (L
       go true = tt
       go false = tt
 
-  value_first_same : (r : ℕ) (u : One) (t : Two) (f : List ℕ) → v.item u ≡ z.item t → A (value_first v r u f) (value_first z r t f)
-  value_first_same zero u t f e = option_alike Y (too_deep_on v) (too_deep_on z) (name_value f) too_deep_same
-  value_first_same (suc r) u t f e = λ x y d. value_same (suc r) (u ∷ x) (t ∷ y) (token e d)
+  value_first_same : (r : ℕ) (u : One) (t : Two) (f : List ℕ) → v.item u ≡ z.item t → clear (z.item t) ≡ true → A (value_first v r u f) (value_first z r t f)
+  value_first_same zero u t f e c = option_alike Y (too_deep_on v) (too_deep_on z) (name_value f) too_deep_same
+  value_first_same (suc r) u t f e c = λ x y d. value_same (suc r) (u ∷ x) (t ∷ y) (token e c d)
 
   call_arguments_same : (r : ℕ) (f : List ℕ) → A (call_arguments v r f) (call_arguments z r f)
   call_arguments_same r f = then_pure (arguments v r) (arguments z r) (call_of f) (arguments_same v z like Later long r)
 
-  behind_callee_same : (r : ℕ) (u : One) (t : Two) (f : List ℕ) → v.item u ≡ z.item t → A (behind_callee v r u f) (behind_callee z r t f)
+  behind_callee_same : (r : ℕ) (u : One) (t : Two) (f : List ℕ) → v.item u ≡ z.item t → clear (z.item t) ≡ true → A (behind_callee v r u f) (behind_callee z r t f)
   unfolding behind_callee
-  behind_callee_same r u t f e =
+  behind_callee_same r u t f e c =
       commit_alike Y (λ a. when (is v s.LeftParenthesis a) (source_call v r f)) (λ a. when (is z s.LeftParenthesis a) (source_call z r f)) (value_first v r u f) (value_first z r t f)
       (test_alike Y (is v s.LeftParenthesis) (is z s.LeftParenthesis) (source_call v r f) (source_call z r f) (is_same v z like Later long s.LeftParenthesis) (then_pure (call_arguments v r f) (call_arguments z r f) (λ c. Call c) (call_arguments_same r f)))
-      (value_first_same r u t f e)
+      (value_first_same r u t f e c)
 
   source_same : (r : ℕ) → AMs (source_by v r) (source_by z r)
   source_same r = record {
-    moves = λ u t e. subst (λ (x : Item). AM (go_named (behind_callee v r u) (callee (what_at x))) (go_named (behind_callee z r t) (callee (seen z t)))) (sym e) (go u t e (callee (seen z t)));
+    moves = λ u t e c. subst (λ (x : Item). AM (go_named (behind_callee v r u) (callee (what_at x))) (go_named (behind_callee z r t) (callee (seen z t)))) (sym e) (go u t e c (callee (seen z t)));
+    barred = λ u t e b. subst (λ (x : Item). AM (go_named (behind_callee v r u) (callee (what_at x))) (go_named (behind_callee z r t) (callee (seen z t)))) (sym e)
+        (by_bars (λ a. AM (go_named (behind_callee v r u) (callee a)) (go_named (behind_callee z r t) (callee a))) tt tt (z.item t) b);
     stays = λ t b. by_bars (λ a. Stays Y (go_named (behind_callee z r t) (callee a))) tt tt (z.item t) b;
   }
     where
-      go : (u : One) (t : Two) → v.item u ≡ z.item t → (o : Option (List ℕ)) → AM (go_named (behind_callee v r u) o) (go_named (behind_callee z r t) o)
-      go u t e None = tt
-      go u t e (Some f) = behind_callee_same r u t f e
+      go : (u : One) (t : Two) → v.item u ≡ z.item t → clear (z.item t) ≡ true → (o : Option (List ℕ)) → AM (go_named (behind_callee v r u) o) (go_named (behind_callee z r t) o)
+      go u t e c None = tt
+      go u t e c (Some f) = behind_callee_same r u t f e c
 
   value_or_call_same : (r : ℕ) → A (value_or_call v r) (value_or_call z r)
   unfolding value_or_call
@@ -299,19 +301,17 @@ module _ {One Two : Type 0} (v : Sight One) (z : Sight Two) (like : Like v z) (L
   begun_same p q k m h d None = d
 
   step_begun_same : (r : ℕ) → AMs (step_begun v r) (step_begun z r)
-  step_begun_same r = record {
-    moves = λ u t e. subst (λ (x : Item). AM (begun_by (step_named v r u) (counted_by v r u) (name_of (what_at x))) (step_begun z r t)) (sym e) (begun_same (step_named v r u) (step_named z r t) (counted_by v r u) (counted_by z r t) (λ n. step_named_same r u t n e) (counted_at r u t e) (name_of (seen z t)));
-    stays = λ t b. by_bars (λ a. Stays Y (begun_by (step_named z r t) (go_with (count_first z r (line z t)) (counter a)) (name_of a))) tt tt (z.item t) b;
-  }
+  step_begun_same r =
+      alike_moves Y (λ u t e. subst (λ (x : Item). AM (begun_by (step_named v r u) (counted_by v r u) (name_of (what_at x))) (step_begun z r t)) (sym e) (begun_same (step_named v r u) (step_named z r t) (counted_by v r u) (counted_by z r t) (λ n. step_named_same r u t n e) (counted_at r u t e) (name_of (seen z t))))
+      (λ t b. by_bars (λ a. Stays Y (begun_by (step_named z r t) (go_with (count_first z r (line z t)) (counter a)) (name_of a))) tt tt (z.item t) b)
 
   other_begun_at : (r : ℕ) (u : One) (t : Two) → v.item u ≡ z.item t → AM (other_begun v r u) (other_begun z r t)
   other_begun_at r u t e = subst (λ (x : Item). AM (begun_by (simple_named v r u) (counted_by v r u) (name_of (what_at x))) (other_begun z r t)) (sym e) (begun_same (simple_named v r u) (simple_named z r t) (counted_by v r u) (counted_by z r t) (λ n. simple_named_same r u t n e) (counted_at r u t e) (name_of (seen z t)))
 
   simple_begun_same : (k : Kind) (r : ℕ) → AMs (λ u. simple_begun v k r u (seen v u)) (λ t. simple_begun z k r t (seen z t))
-  simple_begun_same k r = record {
-    moves = λ u t e. subst (λ (x : Item). AM (simple_begun v k r u (what_at x)) (simple_begun z k r t (seen z t))) (sym e) (go u t e (seen z t));
-    stays = λ t b. by_bars (λ a. a ≡ seen z t → Stays Y (simple_begun z k r t a)) (λ d. calm t What.Definition d tt) (λ d. calm t What.Repeated d tt) (z.item t) b refl;
-  }
+  simple_begun_same k r =
+      alike_moves Y (λ u t e. subst (λ (x : Item). AM (simple_begun v k r u (what_at x)) (simple_begun z k r t (seen z t))) (sym e) (go u t e (seen z t)))
+      (λ t b. by_bars (λ a. a ≡ seen z t → Stays Y (simple_begun z k r t a)) (λ d. calm t What.Definition d tt) (λ d. calm t What.Repeated d tt) (z.item t) b refl)
     where
       go : (u : One) (t : Two) → v.item u ≡ z.item t → (a : What) → AM (simple_begun v k r u a) (simple_begun z k r t a)
       go u t e (What.Fixed w.Int) = declarators_same r

@@ -12,9 +12,9 @@ use Rattle.c_grammar.specs.Items.{Item, name_of}
 use Rattle.c_grammar.specs.Levels.{Tall, tall, nothing, alone, followed}
 use Rattle.c_grammar.specs.Statements.{chosen, repeated, counted, Body, body_then, body_with}
 use Rattle.parse_laws.specs.Parser.{Parser, ◌>>=◌, pure, refuse, Move, Stop, Deep, Go, commit, when, must, deeper, many}
-use Rattle.parse_laws.proofs.Alike.{Ways, token, Alike, AlikeMove, AlikeMoves, Stays, pure_alike, commit_alike, choice_alike, option_alike, when_alike, test_alike, must_alike, bind_alike, then_alike, deeper_alike, loop_alike, many_alike}
+use Rattle.parse_laws.proofs.Alike.{Ways, token, Alike, AlikeMove, AlikeMoves, Stays, alike_moves, pure_alike, commit_alike, choice_alike, option_alike, when_alike, test_alike, must_alike, bind_alike, then_alike, deeper_alike, loop_alike, many_alike}
 use Rattle.c_expressions.specs.Parsers.{Sight, what_at, seen, is, go_named, named, fits, close, expression}
-use Rattle.c_expressions.proofs.Same.{Like, by_bars, bars, ways, by_what, test_by_what, is_same, sign_same, go_named_same, close_same, expression_same}
+use Rattle.c_expressions.proofs.Same.{Like, by_bars, bars, clear, ways, by_what, test_by_what, is_same, sign_same, go_named_same, close_same, expression_same}
 use Rattle.c_simple.specs.Words.{number_of}
 use Rattle.c_simple.specs.Parsers.{line_in, line, step_by, begins_simple_at}
 use Rattle.c_simple.proofs.Same.{step_same, simple_same}
@@ -51,10 +51,9 @@ module _ {One Two : Type 0} (v : Sight One) (z : Sight Two) (like : Like v z) (L
 
   -- a name by its token, which is told its line
   named_line : {B : Type 0} (p : ℕ → List ℕ → Parser One B) (q : ℕ → List ℕ → Parser Two B) → ((l : ℕ) (n : List ℕ) → A (p l n) (q l n)) → AMs (λ u. named v (p (line v u)) u) (λ t. named z (q (line z t)) t)
-  named_line p q h = record {
-    moves = λ u t e. subst (λ (x : Item). AM (go_named (p (line_in x)) (name_of (what_at x))) (named z (q (line z t)) t)) (sym e) (go_named_same v z like Later long (p (line z t)) (q (line z t)) (h (line z t)) (name_of (seen z t)));
-    stays = λ t b. by_bars (λ a. Stays Y (go_named (q (line z t)) (name_of a))) tt tt (z.item t) b;
-  }
+  named_line p q h =
+      alike_moves Y (λ u t e. subst (λ (x : Item). AM (go_named (p (line_in x)) (name_of (what_at x))) (named z (q (line z t)) t)) (sym e) (go_named_same v z like Later long (p (line z t)) (q (line z t)) (h (line z t)) (name_of (seen z t))))
+      (λ t b. by_bars (λ a. Stays Y (go_named (q (line z t)) (name_of a))) tt tt (z.item t) b)
 
   -- ---- what is tested
 
@@ -81,14 +80,15 @@ module _ {One Two : Type 0} (v : Sight One) (z : Sight Two) (like : Like v z) (L
   first_same : (r : ℕ) → A (first v r) (first z r)
   unfolding first
   first_same r = choice_alike Y (λ u. first_by v r u (first_start (seen v u))) (λ t. first_by z r t (first_start (seen z t))) (record {
-    moves = λ u t e. subst (λ (x : Item). AM (first_by v r u (first_start (what_at x))) (first_by z r t (first_start (seen z t)))) (sym e) (go u t e (first_start (seen z t)));
+    moves = λ u t e c. subst (λ (x : Item). AM (first_by v r u (first_start (what_at x))) (first_by z r t (first_start (seen z t)))) (sym e) (go u t (first_start (seen z t)) ((step_same v z like Later long s.Semicolon r).moves u t e c));
+    barred = λ u t e b. subst (λ (x : Item). AM (first_by v r u (first_start (what_at x))) (first_by z r t (first_start (seen z t)))) (sym e) (go u t (first_start (seen z t)) ((step_same v z like Later long s.Semicolon r).barred u t e b));
     stays = λ t b. by_bars (λ a. (x : Start) → x ≡ first_start a → Stays Y (first_by z r t x)) (calm t b) (calm t b) (z.item t) b (first_start (seen z t)) refl;
   })
     where
-      go : (u : One) (t : Two) → v.item u ≡ z.item t → (x : Start) → AM (first_by v r u x) (first_by z r t x)
-      go u t e f.Nothing = pure_alike Y nothing
-      go u t e f.Int = deeper_alike Y (λ _. declared v r) (λ _. declared z r) r (λ m e. declared_same r)
-      go u t e f.Step = (step_same v z like Later long s.Semicolon r).moves u t e
+      go : (u : One) (t : Two) (x : Start) → AM (step_by v s.Semicolon r u) (step_by z s.Semicolon r t) → AM (first_by v r u x) (first_by z r t x)
+      go u t f.Nothing d = pure_alike Y nothing
+      go u t f.Int d = deeper_alike Y (λ _. declared v r) (λ _. declared z r) r (λ m e. declared_same r)
+      go u t f.Step d = d
 
       calm : (t : Two) → bars (z.item t) ≡ true → (x : Start) → x ≡ f.Step → Stays Y (first_by z r t x)
       calm t b f.Step e = (step_same v z like Later long s.Semicolon r).stays t b
@@ -104,7 +104,7 @@ module _ {One Two : Type 0} (v : Sight One) (z : Sight Two) (like : Like v z) (L
 
   -- a sign, or else other moves
   sign_or : {B : Type 0} (x : Sign) (p : Parser One B) (q : Parser Two B) (k : One → Move One B) (m : Two → Move Two B) → A p q → AMs k m → AMs (λ u. if is v x u then Go p else k u) (λ t. if is z x t then Go q else m t)
-  sign_or x p q k m h d = record { moves = λ u t e. go u t (is v x u) (is z x t) ((is_same v z like Later long x).same u t e) (d.moves u t e); stays = λ t b. calm t (is z x t) ((is_same v z like Later long x).passes t b) (d.stays t b) }
+  sign_or x p q k m h d = record { moves = λ u t e c. go u t (is v x u) (is z x t) ((is_same v z like Later long x).same u t e) (d.moves u t e c); barred = λ u t e b. go u t (is v x u) (is z x t) ((is_same v z like Later long x).same u t e) (d.barred u t e b); stays = λ t b. calm t (is z x t) ((is_same v z like Later long x).passes t b) (d.stays t b) }
     where
       go : (u : One) (t : Two) (b c : Bool) → b ≡ c → AM (k u) (m t) → AM (cond b (Go p) (k u)) (cond c (Go q) (m t))
       go u t true true e y = h
@@ -173,19 +173,20 @@ module _ {One Two : Type 0} (v : Sight One) (z : Sight Two) (like : Like v z) (L
   module _ (k : Kind) (room : ℕ) (lower : One → Move One (Tall (List Stmt))) (under : Two → Move Two (Tall (List Stmt))) (h : AMs lower under) where
     statement_in_same : AMs (λ u. statement_in v k room lower u (statement_opening (seen v u))) (λ t. statement_in z k room under t (statement_opening (seen z t)))
     statement_in_same = record {
-      moves = λ u t e. subst (λ (x : Item). AM (statement_in v k room lower u (statement_opening (what_at x))) (statement_in z k room under t (statement_opening (seen z t)))) (sym e) (go u t e (statement_opening (seen z t)));
+      moves = λ u t e c. subst (λ (x : Item). AM (statement_in v k room lower u (statement_opening (what_at x))) (statement_in z k room under t (statement_opening (seen z t)))) (sym e) (go u t e (statement_opening (seen z t)) ((simple_in_same k room).moves u t e c));
+      barred = λ u t e b. subst (λ (x : Item). AM (statement_in v k room lower u (statement_opening (what_at x))) (statement_in z k room under t (statement_opening (seen z t)))) (sym e) (go u t e (statement_opening (seen z t)) ((simple_in_same k room).barred u t e b));
       stays = λ t b. by_bars (λ a. (x : Opening) → x ≡ statement_opening a → Stays Y (statement_in z k room under t x)) (calm t b) (calm t b) (z.item t) b (statement_opening (seen z t)) refl;
     }
       where
         on_line : (u : One) (t : Two) → v.item u ≡ z.item t → (P : ℕ → Type 0) → P (line z t) → P (line v u)
         on_line u t e P y = subst P (sym (ap line_in e)) y
 
-        go : (u : One) (t : Two) → v.item u ≡ z.item t → (x : Opening) → AM (statement_in v k room lower u x) (statement_in z k room under t x)
-        go u t e o.Empty = pure_alike Y nothing
-        go u t e o.If = on_line u t e (λ l. AM (twice_deeper (λ r. choice v r lower l) room) (twice_deeper (λ r. choice z r under (line z t)) room)) (twice_same (λ r. choice v r lower (line z t)) (λ r. choice z r under (line z t)) room (λ r. choice_same lower under h r (line z t)))
-        go u t e o.While = on_line u t e (λ l. AM (twice_deeper (λ r. repetition v r lower l) room) (twice_deeper (λ r. repetition z r under (line z t)) room)) (twice_same (λ r. repetition v r lower (line z t)) (λ r. repetition z r under (line z t)) room (λ r. repetition_same lower under h r (line z t)))
-        go u t e o.For = on_line u t e (λ l. AM (deeper (λ r. counting v r lower l) room) (deeper (λ r. counting z r under (line z t)) room)) (deeper_alike Y (λ r. counting v r lower (line z t)) (λ r. counting z r under (line z t)) room (λ r d. counting_same lower under h r (line z t)))
-        go u t e o.Simple = (simple_in_same k room).moves u t e
+        go : (u : One) (t : Two) → v.item u ≡ z.item t → (x : Opening) → AM (simple_in v k room u) (simple_in z k room t) → AM (statement_in v k room lower u x) (statement_in z k room under t x)
+        go u t e o.Empty d = pure_alike Y nothing
+        go u t e o.If d = on_line u t e (λ l. AM (twice_deeper (λ r. choice v r lower l) room) (twice_deeper (λ r. choice z r under (line z t)) room)) (twice_same (λ r. choice v r lower (line z t)) (λ r. choice z r under (line z t)) room (λ r. choice_same lower under h r (line z t)))
+        go u t e o.While d = on_line u t e (λ l. AM (twice_deeper (λ r. repetition v r lower l) room) (twice_deeper (λ r. repetition z r under (line z t)) room)) (twice_same (λ r. repetition v r lower (line z t)) (λ r. repetition z r under (line z t)) room (λ r. repetition_same lower under h r (line z t)))
+        go u t e o.For d = on_line u t e (λ l. AM (deeper (λ r. counting v r lower l) room) (deeper (λ r. counting z r under (line z t)) room)) (deeper_alike Y (λ r. counting v r lower (line z t)) (λ r. counting z r under (line z t)) room (λ r f. counting_same lower under h r (line z t)))
+        go u t e o.Simple d = d
 
         calm : (t : Two) → bars (z.item t) ≡ true → (x : Opening) → x ≡ o.Simple → Stays Y (statement_in z k room under t x)
         calm t b o.Simple e = (simple_in_same k room).stays t b
@@ -195,7 +196,7 @@ module _ {One Two : Type 0} (v : Sight One) (z : Sight Two) (like : Like v z) (L
         calm t b o.For e = absurd cc
 
   stop_same : AMs {B = Tall (List Stmt)} (λ _. Stop) (λ _. Stop)
-  stop_same = record { moves = λ u t e. tt; stays = λ t b. tt }
+  stop_same = alike_moves Y (λ u t e. tt) (λ t b. tt)
 
   pub statement_same : (k : Kind) (room : ℕ) → AMs (statement_by v k room) (statement_by z k room)
   unfolding statement_by
@@ -250,20 +251,27 @@ module _ {One Two : Type 0} (v : Sight One) (z : Sight Two) (like : Like v z) (L
       must_alike Y (λ u. is_thread_type (seen v u)) (λ t. is_thread_type (seen z t)) (commit (with_slots_by v b) refuse) (commit (with_slots_by z b) refuse) (test_by_what v z like Later long is_thread_type refl refl)
       (choice_alike Y (with_slots_by v b) (with_slots_by z b) (with_slots_same b))
 
-  threads_same : (k : Kind) (room : ℕ) (b : Tall Body) (u : One) (t : Two) → v.item u ≡ z.item t → A (threads v k room b u) (threads z k room b t)
+  threads_same : (k : Kind) (room : ℕ) (b : Tall Body) (u : One) (t : Two) → v.item u ≡ z.item t → clear (z.item t) ≡ true → A (threads v k room b u) (threads z k room b t)
   unfolding threads
-  threads_same k room b u t e = commit_alike Y (with_slots_by v b) (with_slots_by z b) (named_thread v k room b u) (named_thread z k room b t) (with_slots_same b) (λ x y d. stated_same k room b (u ∷ x) (t ∷ y) (token e d))
+  threads_same k room b u t e c = commit_alike Y (with_slots_by v b) (with_slots_by z b) (named_thread v k room b u) (named_thread z k room b t) (with_slots_same b) (λ x y d. stated_same k room b (u ∷ x) (t ∷ y) (token e c d))
 
   main_same : (k : Kind) (room : ℕ) (b : Tall Body) → AMs (λ u. main_by v k room b u (thread_opening (seen v u))) (λ t. main_by z k room b t (thread_opening (seen z t)))
   main_same k room b = record {
-    moves = λ u t e. subst (λ (x : Item). AM (main_by v k room b u (thread_opening (what_at x))) (main_by z k room b t (thread_opening (seen z t)))) (sym e) (go u t e (thread_opening (seen z t)));
+    moves = λ u t e c. subst (λ (x : Item). AM (main_by v k room b u (thread_opening (what_at x))) (main_by z k room b t (thread_opening (seen z t)))) (sym e) (go u t e c (thread_opening (seen z t)));
+    barred = λ u t e c. subst (λ (x : Item). AM (main_by v k room b u (thread_opening (what_at x))) (main_by z k room b t (thread_opening (seen z t)))) (sym e)
+        (by_bars (λ a. (x : Thread) → x ≡ thread_opening a → AM (main_by v k room b u x) (main_by z k room b t x)) (other u t e c) (other u t e c) (z.item t) c (thread_opening (seen z t)) refl);
     stays = λ t c. by_bars (λ a. (x : Thread) → x ≡ thread_opening a → Stays Y (main_by z k room b t x)) (calm t c) (calm t c) (z.item t) c (thread_opening (seen z t)) refl;
   }
     where
-      go : (u : One) (t : Two) → v.item u ≡ z.item t → (x : Thread) → AM (main_by v k room b u x) (main_by z k room b t x)
-      go u t e th.Static = when_alike Y v.threads z.threads (static_threads v b) (static_threads z b) like.threads (static_same b)
-      go u t e th.Type = threads_same k room b u t e
-      go u t e th.Other = (stated_by_same k room b).moves u t e
+      go : (u : One) (t : Two) → v.item u ≡ z.item t → clear (z.item t) ≡ true → (x : Thread) → AM (main_by v k room b u x) (main_by z k room b t x)
+      go u t e c th.Static = when_alike Y v.threads z.threads (static_threads v b) (static_threads z b) like.threads (static_same b)
+      go u t e c th.Type = threads_same k room b u t e c
+      go u t e c th.Other = (stated_by_same k room b).moves u t e c
+
+      other : (u : One) (t : Two) → v.item u ≡ z.item t → bars (z.item t) ≡ true → (x : Thread) → x ≡ th.Other → AM (main_by v k room b u x) (main_by z k room b t x)
+      other u t e c th.Other d = (stated_by_same k room b).barred u t e c
+      other u t e c th.Static d = absurd cc
+      other u t e c th.Type d = absurd cc
 
       calm : (t : Two) → bars (z.item t) ≡ true → (x : Thread) → x ≡ th.Other → Stays Y (main_by z k room b t x)
       calm t c th.Other e = (stated_by_same k room b).stays t c

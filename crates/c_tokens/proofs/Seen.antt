@@ -1,24 +1,21 @@
 -- What a token is, by its kind.
-use Rattle.std.proofs.Common.{◌≡◌, ℕ, suc, ◌+◌, ◌-◌, ◌<◌, ◌≤◌, nat_lt, Bool, true, false, cond, ◌&&◌, List, [], length, take, drop, Result, Ok, Err, refl, sym, ap, subst, ◌∙◌, arith}
+use Rattle.std.proofs.Common.{◌≡◌, ℕ, suc, ◌+◌, ◌-◌, ◌<◌, ◌≤◌, nat_lt, Bool, true, false, List, [], length, take, drop, Result, Ok, Err, refl, ap, subst, ◌∙◌, arith}
 use Rattle.std.proofs.lemmas.Bool.{lt-ltb, ltb-true, ltb-false}
 use Rattle.std.proofs.lemmas.List.{length-take-le, drop-take, take-take, drop-drop, length-drop}
 use Rattle.std.specs.Result.{IfOk}
-use Rattle.std.specs.HashMap.{HashMap}
-use denote.Ref.{Bor}
 use Rattle.c_lexer.specs.declared.token.Token.{Token}
 use Rattle.c_lexer.specs.declared.token.Token.TheVariants as t
 use Rattle.c_lexer.specs.declared.token.Span.{Span}
 use Rattle.c_lexer.specs.Pieces.{Kind}
 use Rattle.c_lexer.specs.Directives.{name_place}
-use Rattle.c_lexer.specs.Tokens.{token_of}
 use Rattle.c_lexer.specs.Laws.{slice}
-use Rattle.c_grammar.specs.Items.{What, Defined, definition_of, named, what_is, defined_by, unquoted}
+use Rattle.c_grammar.specs.Items.{What, definition_of, named, what_is, defined_by, unquoted}
 use Rattle.c_expressions.specs.declared.token.What as declared
 use Rattle.c_expressions.specs.declared.token.What.TheVariants as marked
 use Rattle.c_expressions.specs.Marked.{what_of, bytes_at}
 use Rattle.c_tokens.specs.Known.{Knows}
 use Rattle.c_tokens.specs.Marks.{TellsWord}
-use Rattle.c_tokens.specs.Sees.{Sees, SeesName, SeesDefinition, Named}
+use Rattle.c_tokens.specs.Sees.{Sees, SeesName, SeesDefinition}
 use Rattle.c_tokens.proofs.Tables.{Table}
 
 -- the bytes at a place that lies in the text

@@ -1,6 +1,6 @@
 -- What is put into a table of names is found there.
-use Rattle.std.proofs.Common.{◌≡◌, ℕ, ◌+◌, ◌<◌, ◌≤◌, Bool, true, false, cond, ◌||◌, if◌then◌else◌, List, [], ◌∷◌, length, get_or, drop, reverse, map, fold, bytes_eq, Option, Some, None, refl, sym, ap, subst, ◌∙◌, arith}
-use Rattle.std.specs.HashMap.{HashMap, UpdatesBy, get_by}
+use Rattle.std.proofs.Common.{◌≡◌, ℕ, ◌+◌, ◌<◌, Bool, true, false, cond, ◌||◌, List, [], ◌∷◌, length, get_or, drop, bytes_eq, Option, Some, None, refl, sym, ap, subst, ◌∙◌}
+use Rattle.std.specs.HashMap.{HashMap, UpdatesBy}
 use Rattle.std.specs.List.{list_any}
 use Rattle.std.proofs.lemmas.List.{drop_more}
 use Rattle.std.proofs.lemmas.Map.Text.{hash_map_updates_str}
@@ -8,7 +8,7 @@ use Rattle.std.proofs.lemmas.Slice.Eq.{bytes_eq-Decides}
 use denote.Ref.{Bor}
 use Rattle.c_grammar.specs.declared.words.FixedWord.{FixedWord}
 use Rattle.c_grammar.specs.declared.words.FixedWord.TheVariants as w
-use Rattle.c_grammar.specs.Items.{What, spelling, is_spelled, word_or, other_keywords, fixed_keywords, fixed_names, undefined_name, Defined, definition_of, named, defines, first_or_repeated}
+use Rattle.c_grammar.specs.Items.{What, spelling, is_spelled, word_or, other_keywords, fixed_keywords, fixed_names, undefined_name, Defined, definition_of, named, first_or_repeated}
 use Rattle.c_expressions.specs.declared.token.What as declared
 use Rattle.c_expressions.specs.declared.token.What.TheVariants as marked
 use Rattle.c_expressions.specs.Marked.{what_of}
@@ -123,7 +123,7 @@ shaped_words : (P : What → Type 0) → ((word : FixedWord) → P (What.Fixed w
 shaped_words P f name [] other h = h
 shaped_words P f name (word ∷ words) other h = shaped_either P (is_spelled name word) (f word) (shaped_words P f name words other h)
 
-shaped_undefined : (P : What → Type 0) → P What.Keyword → ((word : FixedWord) → P (What.Fixed word)) → (name : List ℕ) → P (What.Name name) → P (undefined_name name)
+pub shaped_undefined : (P : What → Type 0) → P What.Keyword → ((word : FixedWord) → P (What.Fixed word)) → (name : List ℕ) → P (What.Name name) → P (undefined_name name)
 shaped_undefined P k f name h =
     shaped_either P (list_any (bytes_eq name) other_keywords) k (shaped_words P f name fixed_keywords (word_or fixed_names (What.Name name) name) (shaped_words P f name fixed_names (What.Name name) h))
 

@@ -1,5 +1,5 @@
 -- A reader that goes on by one token.
-use Rattle.std.proofs.Common.{◌≡◌, ℕ, suc, ◌+◌, ◌-◌, ◌<◌, ◌≤◌, List, [], ◌∷◌, ◌++◌, length, take, drop, Option, Some, None, Result, Ok, Err, refl, sym, ap, subst, ◌∙◌, append_assoc, append-nil, length-append, arith}
+use Rattle.std.proofs.Common.{◌≡◌, ℕ, suc, ◌+◌, ◌-◌, ◌≤◌, List, [], ◌∷◌, ◌++◌, length, take, drop, Option, Some, None, Result, Ok, Err, refl, sym, ap, subst, ◌∙◌, append-nil, length-append, arith}
 use Rattle.std.specs.List.{count_by}
 use Rattle.std.proofs.Math.Seq.{take-add}
 use Rattle.std.proofs.lemmas.List.{length-take}
@@ -8,22 +8,21 @@ use Rattle.c_lexer.specs.declared.token.LexError.{LexError}
 use Rattle.c_lexer.specs.declared.token.Token.{Token}
 use Rattle.c_lexer.specs.declared.token.Span.{Span}
 use Rattle.c_lexer.specs.Classes.{is_newline}
-use Rattle.c_lexer.specs.Pieces.{Kind}
 use Rattle.c_lexer.specs.Tokens.{Word, line, Next, Scan}
-use Rattle.c_lexer.specs.Laws.{slice, word_at, Follows, SpanIn}
+use Rattle.c_lexer.specs.Laws.{slice, word_at, SpanIn}
 use Rattle.c_lexer.proofs.Steps.{lines_add}
 use Rattle.c_lexer.proofs.TextLaws.{stepwise}
-use Rattle.c_grammar.specs.Items.{What, Item, at, Defined, defined_by, defined_after, what_is}
+use Rattle.c_grammar.specs.Items.{What, at, Defined, defined_by, defined_after}
 use Rattle.c_expressions.specs.declared.token.Marked.{Marked}
 use Rattle.c_expressions.specs.declared.token.What as declared
-use Rattle.c_expressions.specs.Marked.{what_of, item_of}
 use Rattle.c_tokens.specs.declared.reader.Reader.{Reader}
 use Rattle.c_tokens.specs.Known.{Knows}
-use Rattle.c_tokens.specs.Marks.{Marks, AllMarked, TellsWord}
+use Rattle.c_tokens.specs.Marks.{Marks, AllMarked}
 use Rattle.c_tokens.specs.Reader.{Stands}
 use Rattle.c_tokens.specs.declared.reader.End.TheVariants as e
-use Rattle.c_tokens.specs.Reading.{Leads, IsRead, end_of}
-use Rattle.c_tokens.specs.Sees.{Sees, Named}
+use Rattle.c_tokens.specs.Reading.{nothing, BeginsWith, IsRead, end_of}
+use Rattle.c_tokens.specs.Sees.{Sees}
+use Rattle.c_tokens.proofs.Leads.{leads_then, leads_scan, met}
 
 -- ---- lines
 
@@ -52,31 +51,20 @@ pub more_defined : (defined : List Defined) (words : List Word) (word : Word) �
 more_defined defined [] word = refl
 more_defined defined (w ∷ words) word = more_defined (defined_by defined w.kind) words word
 
-pub more_leads : (text : List ℕ) (words : List Word) (place : ℕ) (token : Token) (span : Span) (f : Follows text place token span) → Leads text words place → Leads text (words ++ word_at text span f.kind ∷ []) span.end
-more_leads text words place token span f leads = λ later end scan.
-    subst (λ (all : List Word). Scan [] text all end) (sym (append_assoc words (word_at text span f.kind ∷ []) later)) (leads (word_at text span f.kind ∷ later) end (f.adds later end scan))
-
-named_there : (text : List ℕ) (place : ℕ) (token : Token) (span : Span) (f : Follows text place token span) (kind : Kind) → f.kind ≡ kind → Named text span kind
-named_there text place token span f Kind.name e = tt
-named_there text place token span f (Kind.number value) e = tt
-named_there text place token span f Kind.text e = tt
-named_there text place token span f (Kind.sign sign) e = tt
-named_there text place token span f (Kind.define name value) e = f.named name value e
-
 -- ---- one token on
 
 pub stands_next : (text : List ℕ) (reader new : Reader) (token : Token) (span : Span) (what : declared.What) (n m : ℕ) → Stands text reader → Next (take reader.at text) (drop reader.at text) (Ok (Some (token, span))) → SpanIn reader.at (length text) span
     → n ≡ count_by is_newline (slice text reader.at span.start) → m ≡ count_by is_newline (slice text span.start span.end) → Sees text reader.known new.known span token what
     → new.text ≡ reader.text → new.at ≡ span.end → new.line ≡ (reader.line + n) + m → new.marks.items ≡ reader.marks.items ++ record { line = reader.line + n; what = what } ∷ [] → Stands text new
 stands_next text reader new token span what n m s next inside en em sees e1 e2 e3 e4 =
-    let f = (stepwise text reader.at s.within).follows token span next in
-    let h = sees f.kind (defined_after [] s.words) s.knows f.is (named_there text reader.at token span f f.kind refl) in
+    let f = met text reader.at token span next in
+    let h = sees f.kind (defined_after [] s.words) s.knows f.is f.named in
     let at_start : line (take span.start text) ≡ reader.line + n = lines_to text reader.at span.start n inside.after en ∙ ap (λ (l : ℕ). l + n) (sym s.line) in
     record {
       words = s.words ++ word_at text span f.kind ∷ [];
       same = ap (λ t. t.now) e1 ∙ s.same;
       within = rw e2 inside.within;
-      leads = rw e2 (more_leads text s.words reader.at token span f s.leads);
+      leads = rw e2 (leads_then s.leads f.leads);
       marked = rw e4 (more_marked text [] s.words reader.marks.items (word_at text span f.kind) (record { line = reader.line + n; what = what }) s.marked (record { seen = rw (sym at_start) (ap (λ (a : What). at (line (take span.start text)) a) h.0); tells = h.1 }));
       count = rw e4 (length-append s.words (word_at text span f.kind ∷ []) ∙ ap (λ (k : ℕ). k + 1) s.count ∙ sym (length-append reader.marks.items (record { line = reader.line + n; what = what } ∷ [])));
       knows = subst (λ (d : List Defined). Knows new.known d) (sym (more_defined [] s.words (word_at text span f.kind))) h.2;
@@ -91,7 +79,7 @@ stands_first text reader same place first knows none = record {
   words = [];
   same = same;
   within = omega (arith, place);
-  leads = λ later end scan. subst (λ (n : ℕ). Scan (take n text) (drop n text) later end) place scan;
+  leads = rw place nothing;
   marked = rw none tt;
   count = rw none refl;
   knows = knows;
@@ -100,20 +88,26 @@ stands_first text reader same place first knows none = record {
 
 module _ (text : List ℕ) (reader : Reader) (s : Stands text reader) (few : length reader.marks.items ≤ 65536) where
   ended : (end : Option LexError) → Scan (take reader.at text) (drop reader.at text) [] end → Scan [] text s.words end
-  ended end scan = subst (λ (all : List Word). Scan [] text all end) (append-nil s.words) (s.leads [] end scan)
+  ended end scan = subst (λ (all : List Word). Scan [] text all end) (append-nil s.words) (leads_scan s.leads scan)
+
+  begun : BeginsWith text s.words
+  begun = (take reader.at text, drop reader.at text, s.leads)
 
   pub read_whole : Next (take reader.at text) (drop reader.at text) (Ok None) → IsRead text (record { marks = reader.marks; end = e.Text })
-  read_whole next = record { words = s.words; marked = s.marked; few = omega (arith, few, s.count); stops = ended None ((stepwise text reader.at s.within).ends next) }
+  read_whole next = record { words = s.words; begins = begun; marked = s.marked; few = omega (arith, few, s.count); stops = ended None ((stepwise text reader.at s.within).ends next) }
 
   pub read_refused : (error : LexError) → Next (take reader.at text) (drop reader.at text) (Err error) → IsRead text (record { marks = reader.marks; end = e.Refused error })
-  read_refused error next = record { words = s.words; marked = s.marked; few = omega (arith, few, s.count); stops = ended (Some error) ((stepwise text reader.at s.within).stops error next) }
+  read_refused error next = record { words = s.words; begins = begun; marked = s.marked; few = omega (arith, few, s.count); stops = ended (Some error) ((stepwise text reader.at s.within).stops error next) }
 
   pub read_longer : 65536 ≤ length reader.marks.items → (token : Token) (span : Span) → Next (take reader.at text) (drop reader.at text) (Ok (Some (token, span))) → IsRead text (record { marks = reader.marks; end = e.Longer })
   read_longer many token span next = record {
     words = s.words;
+    begins = begun;
     marked = s.marked;
     few = omega (arith, few, s.count);
-    stops = (omega (arith, few, many, s.count), record { place = reader.at; leads = s.leads; token = token; span = span; next = next });
+    stops =
+        let f = met text reader.at token span next in
+        (omega (arith, few, many, s.count), (word_at text span f.kind, (take span.end text, drop span.end text, leads_then s.leads f.leads)));
   }
 
   pub read_most : 65536 ≤ length reader.marks.items → (found : Result (Option (Token × Span)) LexError) → Next (take reader.at text) (drop reader.at text) found → IsRead text (record { marks = reader.marks; end = end_of found })

@@ -1,5 +1,5 @@
 -- What is known of names: which words they are, and what they are defined as.
-use Rattle.std.specs.Prelude.{◌≡◌, ℕ, Bool, if◌then◌else◌, List, fold, map, reverse, bytes_eq, Option, Some, None}
+use Rattle.std.specs.Prelude.{◌≡◌, ℕ, if◌then◌else◌, List, fold, map, reverse, bytes_eq, Option, Some, None}
 use Rattle.std.specs.HashMap.{HashMap, get_by}
 use denote.Ref.{Bor}
 use Rattle.c_grammar.specs.declared.words.FixedWord.{FixedWord}

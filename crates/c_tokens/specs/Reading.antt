@@ -1,26 +1,32 @@
 -- How far a text was read, and why no further.
-use Rattle.std.specs.Prelude.{◌≡◌, ◌≤◌, ℕ, List, [], ◌∷◌, ◌++◌, length, take, drop, Option, Some, None, Result, Ok, Err}
+use Rattle.std.specs.Prelude.{◌≡◌, ◌≤◌, ℕ, List, [], ◌∷◌, ◌++◌, length, Option, Some, None, Result, Ok, Err}
 use Rattle.c_lexer.specs.declared.token.LexError.{LexError}
 use Rattle.c_lexer.specs.declared.token.Token.{Token}
 use Rattle.c_lexer.specs.declared.token.Span.{Span}
-use Rattle.c_lexer.specs.Tokens.{Word, Scan, Next}
-use Rattle.c_expressions.specs.declared.token.Marked.{Marked}
+use Rattle.c_lexer.specs.Pieces.{Kind, Piece}
+use Rattle.c_lexer.specs.Lexeme.{Longest}
+use Rattle.c_lexer.specs.Tokens.{Word, Scan, is_first, line}
 use Rattle.c_tokens.specs.declared.reader.End.{End}
 use Rattle.c_tokens.specs.declared.reader.End.TheVariants as e
 use Rattle.c_tokens.specs.declared.reader.Tokens.{Tokens}
 use Rattle.c_tokens.specs.Marks.{AllMarked}
 
--- These are the words of a text up to a place: with those behind it they are all.
-abbrev pub Leads : List ℕ → List Word → ℕ → Type 0
-Leads text words place = (later : List Word) (end : Option LexError) → Scan (take place text) (drop place text) later end → Scan [] text (words ++ later) end
+-- From one place of a text to another there are these words, with blanks, comments and includes between them. A place is given by the
+-- bytes before it and those after it.
+pub data Leads : List ℕ → List ℕ → List Word → List ℕ → List ℕ → Type 0 where
+  nothing : {before all : List ℕ} → Leads before all [] before all
+  one_skip : {before all w rest place left : List ℕ} {words : List Word} → all ≡ w ++ rest → Longest (is_first before) w rest Piece.skip
+      → Leads (before ++ w) rest words place left → Leads before all words place left
+  one_word : {before all w rest place left : List ℕ} {kind : Kind} {words : List Word} → all ≡ w ++ rest → Longest (is_first before) w rest (Piece.token kind)
+      → Leads (before ++ w) rest words place left → Leads before all (record { kind = kind; bytes = w; line = line before } ∷ words) place left
+
+-- The words of a text begin with these.
+abbrev pub BeginsWith : List ℕ → List Word → Type 0
+BeginsWith text words = (place : List ℕ) × (left : List ℕ) × Leads [] text words place left
 
 -- A further word stands behind these.
-pub record GoesOn (text : List ℕ) (words : List Word) : Type 0 where
-  pub place : ℕ
-  pub leads : Leads text words place
-  pub token : Token
-  pub span : Span
-  pub next : Next (take place text) (drop place text) (Ok (Some (token, span)))
+abbrev pub GoesOn : List ℕ → List Word → Type 0
+GoesOn text words = (word : Word) × BeginsWith text (words ++ word ∷ [])
 
 -- how many words are read at most
 abbrev pub most : ℕ
@@ -41,6 +47,7 @@ end_of (Err error) = e.Refused error
 -- What was read of a text.
 pub record IsRead (text : List ℕ) (tokens : Tokens) : Type 0 where
   pub words : List Word
+  pub begins : BeginsWith text words
   pub marked : AllMarked text [] words tokens.marks.items
   pub few : length words ≤ most
   pub stops : Stops text words tokens.end

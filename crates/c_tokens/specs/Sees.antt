@@ -8,7 +8,7 @@ use Rattle.c_lexer.specs.Pieces.{Kind}
 use Rattle.c_lexer.specs.Tokens.{token_of}
 use Rattle.c_lexer.specs.Directives.{name_place}
 use Rattle.c_lexer.specs.Laws.{slice}
-use Rattle.c_grammar.specs.Items.{What, Defined, definition_of, named, what_is, defined_by}
+use Rattle.c_grammar.specs.Items.{Defined, definition_of, named, what_is, defined_by}
 use Rattle.c_expressions.specs.declared.token.What as declared
 use Rattle.c_expressions.specs.Marked.{what_of, bytes_at}
 use Rattle.c_tokens.specs.Known.{Knows}

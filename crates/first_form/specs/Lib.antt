@@ -2,3 +2,4 @@ pub mod Shown
 pub mod Sets
 pub mod Bodies
 pub mod Locks
+pub mod Size

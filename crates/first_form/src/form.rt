@@ -110,18 +110,18 @@ fn is_main_kind(kind: Kind) -> bool
     matches!(kind, Kind::Main)
 }
 
-/// Whether a function is main, with a body of the first form. The one error is want of memory.
+/// Whether a function is main, with a body of the first form. The one error is want of memory. The number of its
+/// creates is asked first, so at most 31 of them are looked up among the functions.
 fn is_main(alloc: Global, p: &Program, f: &Function) -> Result<bool, AllocError>
     ensures { IfOk result (λ b. b ≡ is_main (shown p.now) (bare_function (function_of f.now))) }
 {
-    let is_form = is_main_kind(f.kind)
+    let is_headed = is_main_kind(f.kind)
         && f.name.as_slice() == b"main".as_slice()
-        && f.params.len() == 0
-        && is_main_body(p, f.body.as_slice());
-    if !is_form {
+        && f.params.len() == 0;
+    if !is_headed {
         return Ok(false);
     }
-    has_good_threads(alloc, f.body.as_slice())
+    Ok(has_good_threads(alloc, f.body.as_slice())? && is_main_body(p, f.body.as_slice()))
 }
 
 /// Whether functions are those of threads, and last main. The one error is want of memory.

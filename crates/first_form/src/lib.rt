@@ -5,17 +5,20 @@
 ghost use Rattle.std.specs.Prelude.{◌≡◌, IfOk};
 ghost use Rattle.c_tree.specs.Lined.{program_of, bare_program};
 ghost use Rattle.c_tree.specs.FirstForm.{is_first_form, first_nested};
+ghost use Rattle.first_form.specs.Size.{has_first_text};
 
 mod form;
 mod locks;
 mod main_body;
 mod names;
 mod scope;
+mod size;
 
 use c_tree::Program;
 use form::{has_balanced_locks, has_first_declarations, has_first_functions, has_good_names};
 use locks::nested_line;
 use scope::Scope;
+use size::has_short_text;
 use std::alloc::{AllocError, Global};
 
 /// Whether a program is of the first form: its declarations, names, functions and locks are as
@@ -31,6 +34,14 @@ pub fn is_first_form(alloc: Global, p: &Program) -> Result<bool, AllocError>
         return Ok(false);
     }
     has_balanced_locks(alloc, &scope, p.functions.as_slice())
+}
+
+/// Whether some text of the first form spells a program: it is of the first form, and that text has at most 65,536
+/// tokens. The one error is want of memory.
+pub fn has_first_text(alloc: Global, p: &Program) -> Result<bool, AllocError>
+    ensures { IfOk result (λ b. b ≡ has_first_text (bare_program (program_of p.now))) }
+{
+    Ok(is_first_form(alloc, p)? && has_short_text(p))
 }
 
 /// The line of the first lock, in the order of the functions, that stands where its function has

@@ -163,7 +163,8 @@ fn are_created(created: &[u32], joined: &[u32]) -> bool
 }
 
 /// Whether a body has at most 31 creates, creates no thread twice, joins none twice, and joins only
-/// those that it creates. The one error is want of memory.
+/// those that it creates. The one error is want of memory. That only created threads are joined is asked first, so a
+/// thread that is joined twice is found among the first 32.
 pub fn has_good_threads(alloc: Global, body: &[Stmt]) -> Result<bool, AllocError>
     ensures { IfOk result (λ b. b ≡ has_good_threads (shown_body body.now)) }
 {
@@ -172,8 +173,8 @@ pub fn has_good_threads(alloc: Global, body: &[Stmt]) -> Result<bool, AllocError
     Ok(
         created.len() <= 31
             && numbers_differ(&created)
-            && numbers_differ(&joined)
-            && are_created(&created, &joined),
+            && are_created(&created, &joined)
+            && numbers_differ(&joined),
     )
 }
 

@@ -116,15 +116,3 @@ pub decided_status : (words : List (List ℕ)) (files : Files) (old new : Seen) 
 decided_status words files old new status has decides other =
     let found = has_answer words files old new status has decides in
     decided_caused words files found.answer status found.same other (caused words files found.answer found.is (ap is_decided (sym found.same) ∙ decides))
-
-limit_caused : (words : List (List ℕ)) (files : Files) (answer : Answered) (status : Status) → status ≡ answer.status → status ≡ Limit
-    → Caused words files answer → IsTooLong words files ⊎ IsDecided words files Limit
-limit_caused words files answer status same limit (Caused.decided is) = inr (record { answer = answer; decided = is; status_is = sym same ∙ limit })
-limit_caused words files answer status same limit (Caused.beyond is long) = inl long
-
-pub limit_status : (words : List (List ℕ)) (files : Files) (old new : Seen) (status : Status) → HasStatus words files old new status
-    → status ≡ Limit → IsTooLong words files ⊎ IsDecided words files Limit
-limit_status words files old new status has limit =
-    let decides : is_decided status ≡ true = ap is_decided limit in
-    let found = has_answer words files old new status has decides in
-    limit_caused words files found.answer status found.same limit (caused words files found.answer found.is (ap is_decided (sym found.same) ∙ decides))

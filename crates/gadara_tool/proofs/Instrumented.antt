@@ -1,5 +1,5 @@
 -- What is known of the words and the file where `instrument` answers.
-use Rattle.std.proofs.Common.{◌≡◌, ℕ, List, [], ◌∷◌, length, Bool, true, false, Some, None, refl, sym, ap, subst, ◌∙◌, inl, inr, arith}
+use Rattle.std.proofs.Common.{◌≡◌, ◌⊎◌, ℕ, List, [], ◌∷◌, length, Bool, true, false, Some, None, refl, sym, ap, subst, ◌∙◌, inl, inr, arith}
 use Rattle.std.specs.Prelude.{Option, ◌&&◌, ◌==◌, codes, bytes_eq, option_and_then, nat_lt, if◌then◌else◌}
 use Rattle.std.specs.FinMap as map
 use Rattle.std.proofs.lemmas.Bool.{cases_lt, lt-ltb, le-ltb}
@@ -17,7 +17,7 @@ use Rattle.answers.specs.Decides.{Decides}
 use Rattle.answers.specs.Instrument.{Instruments}
 use Rattle.gadara_tool.specs.Answers.{Fetched, fetched, fetched_on, task_of, names_of, names_for}
 use Rattle.gadara_tool.specs.Ending.{Ends, IsAnswer, Says}
-use Rattle.gadara_tool.specs.Causes.{IsDecidedAs, InstrumentsFile, HandsBack, Refuses}
+use Rattle.gadara_tool.specs.Causes.{IsDecidedAs, IsTooLong, InstrumentsFile, HandsBack, Refuses, PassesLimit}
 use Rattle.gadara_tool.proofs.Told.{not_both}
 use Rattle.gadara_tool.proofs.Causes.{is_whole, contents_of, Caused, caused}
 
@@ -58,15 +58,15 @@ shape_known command names true named asked =
 shape_known command names false named asked = absurd (not_both (is_there (Some Instrument)) refl (ap is_there (sym asked)))
 
 -- a file was read
-read_within : (words : List (List ℕ)) (files : Files) (name bytes : List ℕ) (contents : List (List ℕ)) → words ≡ codes "instrument" ∷ name ∷ []
+read_within : (words : List (List ℕ)) (files : Files) (name bytes : List ℕ) (contents : List (List ℕ)) → words ≡ codes "instrument" ∷ name ∷ [] → task_of words ≡ Some Instrument
     → HoldsFile files name bytes
     → (if nat_lt 262144 (length bytes) then Fetched.long name 262144 else Fetched.whole (bytes ∷ [])) ≡ Fetched.whole contents
     → InstrumentsFile words files name bytes
-read_within words files name bytes contents asked held read = elim (cases_lt 262144 (length bytes)) [
+read_within words files name bytes contents asked task held read = elim (cases_lt 262144 (length bytes)) [
   | inl long ↦
       let end : Fetched.long name 262144 ≡ Fetched.whole contents = rw (lt-ltb 262144 (length bytes) long) at read in
       absurd (not_both (is_whole (Fetched.whole contents)) refl (ap is_whole (sym end)))
-  | inr fits ↦ record { asked = asked; held = held; within = fits }
+  | inr fits ↦ record { asked = asked; task = task; held = held; within = fits }
 ]
 
 -- what `instrument` answers of a file that the words name
@@ -77,13 +77,13 @@ record Instrumented (words : List (List ℕ)) (files : Files) (answer : Answered
   answers : Instruments name bytes answer
 
 read_one : (words : List (List ℕ)) (files : Files) (name : List ℕ) (contents : List (List ℕ)) (answer : Answered) (found : Option (List ℕ))
-    → words ≡ codes "instrument" ∷ name ∷ [] → map.get files name ≡ found
+    → words ≡ codes "instrument" ∷ name ∷ [] → task_of words ≡ Some Instrument → map.get files name ≡ found
     → fetched_on name 262144 (λ bytes. Fetched.whole (bytes ∷ [])) found ≡ Fetched.whole contents
     → Decides Instrument (name ∷ []) contents answer → Instrumented words files answer
-read_one words files name contents answer None asked held read decides =
+read_one words files name contents answer None asked task held read decides =
     absurd (not_both (is_whole (Fetched.whole contents)) refl (ap is_whole (sym read)))
-read_one words files name contents answer (Some bytes) asked held read decides =
-    let file = read_within words files name bytes contents asked held read in
+read_one words files name contents answer (Some bytes) asked task held read decides =
+    let file = read_within words files name bytes contents asked task held read in
     let whole : Fetched.whole (bytes ∷ []) ≡ Fetched.whole contents = rw (le-ltb 262144 (length bytes) file.within) at read in
     record {
       name = name;
@@ -92,12 +92,12 @@ read_one words files name contents answer (Some bytes) asked held read decides =
       answers = subst (λ all. Decides Instrument (name ∷ []) all answer) (sym (ap contents_of whole)) decides;
     }
 
-instrumented_on : (command : List ℕ) (names : List (List ℕ)) (files : Files) (contents : List (List ℕ)) (answer : Answered) (shape : HasShape command names)
+instrumented_on : (command : List ℕ) (names : List (List ℕ)) (files : Files) (contents : List (List ℕ)) (answer : Answered) (shape : HasShape command names) → task_of (command ∷ names) ≡ Some Instrument
     → fetched files (λ place. 262144) [] names ≡ Fetched.whole contents → Decides Instrument names contents answer
     → Instrumented (command ∷ names) files answer
-instrumented_on command names files contents answer shape read decides =
+instrumented_on command names files contents answer shape task read decides =
     read_one (command ∷ names) files shape.name contents answer (map.get files shape.name)
-    (ap (λ c. c ∷ names) shape.command_is ∙ ap (λ ns. codes "instrument" ∷ ns) shape.names_are) refl
+    (ap (λ c. c ∷ names) shape.command_is ∙ ap (λ ns. codes "instrument" ∷ ns) shape.names_are) task refl
     (subst (λ ns. fetched files (λ place. 262144) [] ns ≡ Fetched.whole contents) shape.names_are read)
     (subst (λ ns. Decides Instrument ns contents answer) shape.names_are decides)
 
@@ -106,7 +106,7 @@ instrumented_task : (command : List ℕ) (names : List (List ℕ)) (files : File
     → Decides task (names_of (command ∷ names)) contents answer → Instrumented (command ∷ names) files answer
 instrumented_task command names files Instrument contents answer asked read decides =
     let same : names_of (command ∷ names) ≡ names = ap (λ found. names_for names found) asked in
-    instrumented_on command names files contents answer (shape_known command names (bytes_eq command (codes "instrument")) refl asked)
+    instrumented_on command names files contents answer (shape_known command names (bytes_eq command (codes "instrument")) refl asked) asked
     (subst (λ ns. fetched files (λ place. 262144) [] ns ≡ Fetched.whole contents) same read)
     (subst (λ ns. Decides Instrument ns contents answer) same decides)
 
@@ -135,9 +135,11 @@ hands_back words files old new answer name bytes file (Instruments.handed_back a
   accepted = accepted;
   written = out ∙ ap (λ a. extended old.out a.text) is;
 }
-hands_back words files old new answer name bytes file (Instruments.nested line nested is) wants out =
+hands_back words files old new answer name bytes file (Instruments.refused line reason why is) wants out =
     absurd (not_both (is_written answer.status) wants (ap (λ a. is_written a.status) is))
-hands_back words files old new answer name bytes file (Instruments.not_built is) wants out =
+hands_back words files old new answer name bytes file (Instruments.not_built other is) wants out =
+    absurd (not_both (is_written answer.status) wants (ap (λ a. is_written a.status) is))
+hands_back words files old new answer name bytes file (Instruments.limited what number passes is) wants out =
     absurd (not_both (is_written answer.status) wants (ap (λ a. is_written a.status) is))
 
 pub done_ends : (words : List (List ℕ)) (old new : Seen) (status : Status) → Ends words old new status → status ≡ Done
@@ -156,13 +158,15 @@ done_ends words old new status (Ends.forgotten same out said) done files told =
 
 -- Refused: the complaint says why
 refuses : (words : List (List ℕ)) (files : Files) (old new : Seen) (answer : Answered) (name bytes : List ℕ) → InstrumentsFile words files name bytes
-    → Instruments name bytes answer → is_written answer.status ≡ false → Says answer.line old new → Refuses words files old new
-refuses words files old new answer name bytes file (Instruments.handed_back accepted is) wants said =
+    → Instruments name bytes answer → is_written answer.status ≡ false → is_limit answer.status ≡ false → Says answer.line old new → Refuses words files old new
+refuses words files old new answer name bytes file (Instruments.handed_back accepted is) wants other said =
     absurd (not_both (is_written answer.status) (ap (λ a. is_written a.status) is) wants)
-refuses words files old new answer name bytes file (Instruments.nested line nested is) wants said =
-    Refuses.nested name bytes line file nested (subst (λ a. Says a.line old new) is said)
-refuses words files old new answer name bytes file (Instruments.not_built is) wants said =
-    Refuses.not_built name bytes file (subst (λ a. Says a.line old new) is said)
+refuses words files old new answer name bytes file (Instruments.refused line reason why is) wants other said =
+    Refuses.at_line name bytes line reason file why (subst (λ a. Says a.line old new) is said)
+refuses words files old new answer name bytes file (Instruments.not_built form is) wants other said =
+    Refuses.not_built name bytes file form (subst (λ a. Says a.line old new) is said)
+refuses words files old new answer name bytes file (Instruments.limited what number passes is) wants other said =
+    absurd (not_both (is_limit answer.status) (ap (λ a. is_limit a.status) is) other)
 
 pub refused_ends : (words : List (List ℕ)) (old new : Seen) (status : Status) → Ends words old new status → status ≡ Refused
     → (files : Files) → old.files ≡ Some files → Refuses words files old new
@@ -170,10 +174,48 @@ refused_ends words old new status (Ends.written answer is wants same out err) re
     absurd (not_both (is_written status) (ap is_written same ∙ wants) (ap is_written refused))
 refused_ends words old new status (Ends.refused answer is wants same out said) refused files told =
     let found = instrumented_answer words files old.files answer status is told same (ap is_decided refused) (ap is_limit refused) in
-    refuses words files old new answer found.name found.bytes found.file found.answers wants said
+    refuses words files old new answer found.name found.bytes found.file found.answers wants (ap is_limit (sym same ∙ refused)) said
 refused_ends words old new status (Ends.unread place is same out said) refused files told =
     absurd (not_both (is_decided status) (ap is_decided refused) (ap is_decided same))
 refused_ends words old new status (Ends.unwritten answer is wants same rose count out said) refused files told =
     absurd (not_both (is_decided status) (ap is_decided refused) (ap is_decided same))
 refused_ends words old new status (Ends.forgotten same out said) refused files told =
     absurd (not_both (is_decided status) (ap is_decided refused) (ap is_decided same))
+
+-- Limit: a file is too long, or the complaint says which limit its text passes
+passes : (words : List (List ℕ)) (files : Files) (old new : Seen) (answer : Answered) (name bytes : List ℕ) → InstrumentsFile words files name bytes
+    → Instruments name bytes answer → answer.status ≡ Limit → Says answer.line old new → PassesLimit words files old new
+passes words files old new answer name bytes file (Instruments.handed_back accepted is) limit said =
+    absurd (not_both (is_limit answer.status) (ap is_limit limit) (ap (λ a. is_limit a.status) is))
+passes words files old new answer name bytes file (Instruments.refused line reason why is) limit said =
+    absurd (not_both (is_limit answer.status) (ap is_limit limit) (ap (λ a. is_limit a.status) is))
+passes words files old new answer name bytes file (Instruments.not_built form is) limit said =
+    absurd (not_both (is_limit answer.status) (ap is_limit limit) (ap (λ a. is_limit a.status) is))
+passes words files old new answer name bytes file (Instruments.limited what number why is) limit said = record {
+  name = name;
+  bytes = bytes;
+  what = what;
+  number = number;
+  instruments = file;
+  passes = why;
+  said = subst (λ a. Says a.line old new) is said;
+}
+
+limit_by : (words : List (List ℕ)) (files : Files) (old new : Seen) (answer : Answered) → answer.status ≡ Limit → Caused words files answer → Says answer.line old new
+    → IsTooLong words files ⊎ PassesLimit words files old new
+limit_by words files old new answer limit (Caused.decided is) said =
+    let found = instrumented words files answer is in inr (passes words files old new answer found.name found.bytes found.file found.answers limit said)
+limit_by words files old new answer limit (Caused.beyond same long) said = inl long
+
+pub limit_ends : (words : List (List ℕ)) (old new : Seen) (status : Status) → Ends words old new status → status ≡ Limit
+    → (files : Files) → old.files ≡ Some files → IsTooLong words files ⊎ PassesLimit words files old new
+limit_ends words old new status (Ends.written answer is wants same out err) limit files told =
+    absurd (not_both (is_written status) (ap is_written same ∙ wants) (ap is_written limit))
+limit_ends words old new status (Ends.refused answer is wants same out said) limit files told =
+    limit_by words files old new answer (sym same ∙ limit) (caused words files answer (is.of_files files told) (ap is_decided (sym same ∙ limit))) said
+limit_ends words old new status (Ends.unread place is same out said) limit files told =
+    absurd (not_both (is_decided status) (ap is_decided limit) (ap is_decided same))
+limit_ends words old new status (Ends.unwritten answer is wants same rose count out said) limit files told =
+    absurd (not_both (is_decided status) (ap is_decided limit) (ap is_decided same))
+limit_ends words old new status (Ends.forgotten same out said) limit files told =
+    absurd (not_both (is_decided status) (ap is_decided limit) (ap is_decided same))

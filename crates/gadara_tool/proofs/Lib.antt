@@ -3,3 +3,4 @@ mod Told
 mod Derived
 mod Causes
 mod Instrumented
+mod One

@@ -10,15 +10,21 @@ use answers::Status;
 use gd_host::RealHost;
 use std::process::ExitCode;
 use std::{env, io};
+use telling::complain;
 use top::gadara;
 
 /// Runs the tool on the words of the command line, and ends with its status as the number. Where the
-/// words can't be had, it does nothing and ends with 7 for want of memory, and else with 6.
+/// words can't be had, it ends with 7 and its line for want of memory, and else with 6.
 fn main(rt: HostRuntime) -> ExitCode {
     let alloc = rt.alloc();
-    let status = match words(&rt) {
-        Ok(words) => gadara(alloc, &words, &mut RealHost::new(rt)),
-        Err(error) if error.kind() == io::ErrorKind::OutOfMemory => Status::Memory,
+    let words = words(&rt);
+    let mut host = RealHost::new(rt);
+    let status = match words {
+        Ok(words) => gadara(alloc, &words, &mut host),
+        Err(error) if error.kind() == io::ErrorKind::OutOfMemory => {
+            complain("gadara: out of memory\n", &mut host);
+            Status::Memory
+        }
         Err(_) => Status::HostFault,
     };
     ExitCode::from(status.number())

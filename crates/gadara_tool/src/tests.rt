@@ -136,6 +136,50 @@ fn files(alloc: Global) -> Result<Vec<(String, Vec<u8>)>, AllocError> {
     Ok(files)
 }
 
+// `count` times the byte `inside` between a front and a back
+fn long(
+    alloc: Global,
+    front: &str,
+    inside: u8,
+    count: usize,
+    back: &str,
+) -> Result<Vec<u8>, AllocError> {
+    let mut text = Vec::from_slice(alloc, front.as_bytes())?;
+    text.extend_from_slice(&vec![in alloc; inside; count]?)?;
+    text.extend_from_slice(back.as_bytes())?;
+    Ok(text)
+}
+
+// a main that assigns 1 in so many pairs of parentheses
+fn nested(alloc: Global, pairs: usize) -> Result<Vec<u8>, AllocError> {
+    let mut text = long(
+        alloc,
+        "int x;\nint main(void) {\n    x = ",
+        b'(',
+        pairs,
+        "1",
+    )?;
+    text.extend_from_slice(&long(alloc, "", b')', pairs, ";\n    return 0;\n}\n")?)?;
+    Ok(text)
+}
+
+// a main with so many empty statements
+fn emptied(alloc: Global, count: usize) -> Result<Vec<u8>, AllocError> {
+    long(alloc, "int main(void) {", b';', count, "return 0; }")
+}
+
+fn built(alloc: Global) -> Result<Vec<(String, Vec<u8>)>, AllocError> {
+    Ok(vec![in alloc;
+        (String::from_str(alloc, "deep.c")?, nested(alloc, 63)?),
+        (String::from_str(alloc, "nested.c")?, nested(alloc, 62)?),
+        (String::from_str(alloc, "many.c")?, emptied(alloc, 65527)?),
+        file(alloc, "c.c", "int x;\nint y = 1 + 2;\n")?,
+        file(alloc, "large.c", "int x = 2147483648;\n")?,
+        file(alloc, "octal.c", "int x = 010;\n")?,
+        file(alloc, "open.c", "int x;\n/* no end\n")?,
+    ]?)
+}
+
 fn words_of(alloc: Global, line: &str) -> Result<Vec<String>, AllocError> {
     let mut words = Vec::new(alloc);
     for word in line.split_whitespace() {
@@ -145,7 +189,11 @@ fn words_of(alloc: Global, line: &str) -> Result<Vec<String>, AllocError> {
 }
 
 fn ends_as(alloc: Global, row: Row) -> Result<bool, AllocError> {
-    let mut host = MemoryHost::new(alloc, files(alloc)?, row.room, vec![in alloc; row.fails]?)?;
+    ends_with(alloc, files(alloc)?, row)
+}
+
+fn ends_with(alloc: Global, files: Vec<(String, Vec<u8>)>, row: Row) -> Result<bool, AllocError> {
+    let mut host = MemoryHost::new(alloc, files, row.room, vec![in alloc; row.fails]?)?;
     let status = gadara(alloc, &words_of(alloc, row.words)?, &mut host);
     Ok(
         status.number() == row.status
@@ -199,5 +247,90 @@ fn rows(rt: HostRuntime) -> Result<(), AllocError> {
     for row in rows {
         assert!(rt; ends_as(alloc, row)?, "at {}", row.words);
     }
+    Ok(())
+}
+
+#[test]
+fn texts_of_the_whole_grammar(rt: HostRuntime) -> Result<(), AllocError> {
+    let alloc = rt.alloc();
+    let rows = [
+        wanted("instrument c.c", 3, "", "gadara: c.c: line 2: syntax\n"),
+        wanted(
+            "instrument deep.c",
+            4,
+            "",
+            "gadara: deep.c: limit: depth 64\n",
+        ),
+        wanted(
+            "instrument nested.c",
+            3,
+            "",
+            "gadara: nested.c: not built yet\n",
+        ),
+        wanted(
+            "instrument many.c",
+            4,
+            "",
+            "gadara: many.c: limit: tokens 65536\n",
+        ),
+        wanted(
+            "instrument large.c",
+            3,
+            "",
+            "gadara: large.c: line 1: number is larger than 2147483647\n",
+        ),
+        wanted(
+            "instrument octal.c",
+            3,
+            "",
+            "gadara: octal.c: line 1: number is not a plain decimal\n",
+        ),
+        wanted(
+            "instrument open.c",
+            3,
+            "",
+            "gadara: open.c: line 2: comment is not closed\n",
+        ),
+    ];
+    for row in rows {
+        assert!(rt; ends_with(alloc, built(alloc)?, row)?, "at {}", row.words);
+    }
+    Ok(())
+}
+
+#[test]
+fn as_many_tokens_as_there_may_be(rt: HostRuntime) -> Result<(), AllocError> {
+    let alloc = rt.alloc();
+    let files = vec![in alloc; (String::from_str(alloc, "many.c")?, emptied(alloc, 65526)?)]?;
+    let mut host = MemoryHost::new(alloc, files, 100000, vec![in alloc; 0]?)?;
+    let status = gadara(alloc, &words_of(alloc, "instrument many.c")?, &mut host);
+    assert_eq!(rt; status.number(), 0);
+    assert!(rt; host.out() == emptied(alloc, 65526)?.as_slice());
+    assert!(rt; host.err().is_empty());
+    Ok(())
+}
+
+// a thread that adds 1 so many times
+fn counting(alloc: Global, count: usize) -> Result<Vec<u8>, AllocError> {
+    let mut text = Vec::from_slice(alloc, b"int x;\nvoid *f(void *arg) {\n")?;
+    for _ in 0..count {
+        text.extend_from_slice(b"x++;")?;
+    }
+    text.extend_from_slice(b"return NULL;\n}\nint main(void) { return 0; }\n")?;
+    Ok(text)
+}
+
+fn ends_counting(alloc: Global, count: usize, status: u8, err: &str) -> Result<bool, AllocError> {
+    let files = vec![in alloc; (String::from_str(alloc, "sums.c")?, counting(alloc, count)?)]?;
+    let mut host = MemoryHost::new(alloc, files, 100000, vec![in alloc; 0]?)?;
+    let ended = gadara(alloc, &words_of(alloc, "instrument sums.c")?, &mut host);
+    Ok(ended.number() == status && host.err() == err.as_bytes())
+}
+
+// The text of the first form is longer than this one.
+#[test]
+fn the_text_of_the_first_form_has_its_limit(rt: HostRuntime) -> Result<(), AllocError> {
+    assert!(rt; ends_counting(rt.alloc(), 10000, 0, "")?);
+    assert!(rt; ends_counting(rt.alloc(), 11000, 3, "gadara: sums.c: not built yet\n")?);
     Ok(())
 }

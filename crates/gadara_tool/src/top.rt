@@ -3,10 +3,12 @@ ghost use Rattle.std.specs.Prelude.{◌≡◌, ◌≢◌, ◌⊎◌, true, false
 ghost use Rattle.gd_host.specs.Outside.{Rose};
 ghost use Rattle.answers.specs.Statuses.{is_written, is_decided};
 ghost use Rattle.answers.specs.Tasks.{texts};
-ghost use Rattle.gadara_tool.specs.Answers.{task_of, names_of, limits_of};
+ghost use Rattle.gd_host.specs.Outside.{Files};
+ghost use Rattle.answers.specs.Answered.{Answered};
+ghost use Rattle.gadara_tool.specs.Answers.{Answers, task_of, names_of, limits_of};
 ghost use Rattle.gadara_tool.specs.Fetching.{AsksInOrder, OnlyReads};
 ghost use Rattle.gadara_tool.specs.Ending.{Defines, Ends, NoFault, HasStatus, EndsAsAnswered};
-ghost use Rattle.gadara_tool.specs.Causes.{IsDecided, IsAbsent, IsTooLong, HandsBack, Refuses};
+ghost use Rattle.gadara_tool.specs.Causes.{IsDecided, IsAbsent, IsTooLong, HandsBack, Refuses, PassesLimit, EndsByFile};
 
 use crate::fetching::fetch_all;
 use crate::telling::{complain, tell};
@@ -95,9 +97,20 @@ pub fn gadara<H: Host>(alloc: Global, words: &Vec<String>, host: &mut H) -> Stat
         (λ files. IsDecided (texts words.now.items) files result) }
 
     // Limit comes only where a file is too long, each before it being there within its limit, or where
-    // the command itself ends so.
-    ensures limit { result ≡ Status.Limit → IfSome (H.seen host.old).files
-        (λ files. IsTooLong (texts words.now.items) files ⊎ IsDecided (texts words.now.items) files Status.Limit) }
+    // its text passes the limit that the complaint names.
+    ensures limit { result ≡ Status.Limit → IfSome (H.seen host.old).files (λ files.
+        IsTooLong (texts words.now.items) files
+        ⊎ PassesLimit (texts words.now.items) files (H.seen host.old) (H.seen host.new)) }
+
+    // The other way: whatever `instrument` answers of the named file's text, which is to be handed back, refused at
+    // a line for a reason, of a form that isn't built or past a limit, the call ends so, but for faults of the host
+    // and want of memory. With no fault of the host all that it tells is that answer's.
+    ensures answer { IfSome (H.seen host.old).files
+        (λ files. EndsByFile (texts words.now.items) files (H.seen host.old) (H.seen host.new) result) }
+
+    // Each list of words has one answer of the same files.
+    ensures one { (files : Files) (answer other : Answered) → Answers (texts words.now.items) files answer
+        → Answers (texts words.now.items) files other → answer ≡ other }
 
     // Where a file is too long and each before it is there within its limit, it is Limit, or a fault of
     // the host, or memory was wanting.

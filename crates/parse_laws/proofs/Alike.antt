@@ -1,17 +1,19 @@
 -- Two parsers over tokens of two types that are seen alike: they read alike.
 --
 -- The tokens of the code and the words of a text are seen as the same items, up to a token that bars the way, which no
--- parser takes: behind it they may be seen otherwise. A parser's lemma follows its definition, one combinator after another.
+-- parser takes: from it on the two lists are related by `Later`, and may be seen otherwise. A parser's lemma follows its
+-- definition, one combinator after another.
 use Rattle.std.proofs.Common.{◌≡◌, ℕ, zero, suc, nat_lt, Bool, true, false, cond, List, [], ◌∷◌, length, Option, Some, None, refl, sym, ap, subst}
 use Rattle.parse_laws.specs.declared.fault.Fault.{Fault}
 use Rattle.parse_laws.specs.declared.fault.Fault.TheVariants.{Syntax, TooDeep}
 use Rattle.parse_laws.specs.Parser.{Outcome, Got, Failed, Parser, and_then, ◌>>=◌, pure, refuse, Move, Stop, Deep, Go, moved, commit, and_go, when, expect, must, deeper, fault_at, a_level_down, loop_from, loop, one_more, many, separated}
 use Rattle.parse_laws.specs.Operators.{Operators, operate_by, operate, climb, chain, below}
 
--- How tokens of two types are seen, what bars the way, and how the tokens behind that may be.
+-- How tokens of two types are seen, what is passed, what bars the way, and how the lists are related from there on.
 pub record Ways (One Two Item : Type 0) : Type 1 where
   pub one : One → Item
   pub two : Two → Item
+  pub clear : Item → Bool
   pub bars : Item → Bool
   pub Later : List One → List Two → Type 0
   pub long : (x : List One) (y : List Two) → Later x y → length x ≡ length y
@@ -19,14 +21,14 @@ pub record Ways (One Two Item : Type 0) : Type 1 where
 -- tokens that are seen alike
 pub data Along {One Two Item : Type 0} (w : Ways One Two Item) : List One → List Two → Type 0 where
   ended : Along w [] []
-  token : {u : One} {t : Two} {x : List One} {y : List Two} → w.one u ≡ w.two t → Along w x y → Along w (u ∷ x) (t ∷ y)
-  barred : {u : One} {t : Two} {x : List One} {y : List Two} → w.one u ≡ w.two t → w.bars (w.two t) ≡ true → w.Later x y → Along w (u ∷ x) (t ∷ y)
+  token : {u : One} {t : Two} {x : List One} {y : List Two} → w.one u ≡ w.two t → w.clear (w.two t) ≡ true → Along w x y → Along w (u ∷ x) (t ∷ y)
+  barred : {u : One} {t : Two} {x : List One} {y : List Two} → w.one u ≡ w.two t → w.bars (w.two t) ≡ true → w.Later (u ∷ x) (t ∷ y) → Along w (u ∷ x) (t ∷ y)
 
 module _ {One Two Item : Type 0} (w : Ways One Two Item) where
   pub along_long : {x : List One} {y : List Two} → Along w x y → length x ≡ length y
   along_long ended = refl
-  along_long (token e h) = ap suc (along_long h)
-  along_long (barred e b h) = ap suc (w.long _ _ h)
+  along_long (token e c h) = ap suc (along_long h)
+  along_long (barred e b h) = w.long _ _ h
 
   -- the same answer, with tokens left that are seen alike
   abbrev pub Both : {A : Type 0} → Outcome One A → Outcome Two A → Type 0
@@ -51,8 +53,13 @@ module _ {One Two Item : Type 0} (w : Ways One Two Item) where
 
   -- moves that are alike at each token, and that don't go at one that bars the way
   pub record AlikeMoves {A : Type 0} (k : One → Move One A) (m : Two → Move Two A) : Type 0 where
-    pub moves : (u : One) (t : Two) → w.one u ≡ w.two t → AlikeMove (k u) (m t)
+    pub moves : (u : One) (t : Two) → w.one u ≡ w.two t → w.clear (w.two t) ≡ true → AlikeMove (k u) (m t)
+    pub barred : (u : One) (t : Two) → w.one u ≡ w.two t → w.bars (w.two t) ≡ true → AlikeMove (k u) (m t)
     pub stays : (t : Two) → w.bars (w.two t) ≡ true → Stays (m t)
+
+  -- where they are alike whatever the token does
+  pub alike_moves : {A : Type 0} {k : One → Move One A} {m : Two → Move Two A} → ((u : One) (t : Two) → w.one u ≡ w.two t → AlikeMove (k u) (m t)) → ((t : Two) → w.bars (w.two t) ≡ true → Stays (m t)) → AlikeMoves k m
+  alike_moves h s = record { moves = λ u t e c. h u t e; barred = λ u t e b. h u t e; stays = s }
 
   -- a test of tokens that answers alike, and not what bars the way
   pub record AlikeTest (p : One → Bool) (q : Two → Bool) : Type 0 where
@@ -92,8 +99,8 @@ module _ {One Two Item : Type 0} (w : Ways One Two Item) where
 
         go : {x : List One} {y : List Two} → Along w x y → Both (commit k p x) (commit m q y)
         go ended = o [] [] ended
-        go (token {u = u} {t = t} {x = x} {y = y} e h) = taken (k u) (m t) u t x y (s.moves u t e) (token e h) h
-        go (barred {u = u} {t = t} {x = x} {y = y} e b h) = stopped (k u) (m t) u t x y (s.moves u t e) (s.stays t b) (barred e b h)
+        go (token {u = u} {t = t} {x = x} {y = y} e c h) = taken (k u) (m t) u t x y (s.moves u t e c) (token e c h) h
+        go (barred {u = u} {t = t} {x = x} {y = y} e b h) = stopped (k u) (m t) u t x y (s.barred u t e b) (s.stays t b) (barred e b h)
 
     pub choice_alike : (k : One → Move One A) (m : Two → Move Two A) → AlikeMoves k m → Alike (commit k refuse) (commit m refuse)
     choice_alike k m s = commit_alike k m refuse refuse s (refuse_alike A)
@@ -113,7 +120,7 @@ module _ {One Two Item : Type 0} (w : Ways One Two Item) where
 
     -- a token by its test, and a parser behind it
     pub test_alike : (is : One → Bool) (its : Two → Bool) (p : Parser One A) (q : Parser Two A) → AlikeTest is its → Alike p q → AlikeMoves (λ u. when (is u) p) (λ t. when (its t) q)
-    test_alike is its p q s h = record { moves = λ u t e. when_alike (is u) (its t) p q (s.same u t e) h; stays = λ t b. when_stays (its t) q (s.passes t b) }
+    test_alike is its p q s h = alike_moves (λ u t e. when_alike (is u) (its t) p q (s.same u t e) h) (λ t b. when_stays (its t) q (s.passes t b))
 
     pub must_alike : (is : One → Bool) (its : Two → Bool) (p : Parser One A) (q : Parser Two A) → AlikeTest is its → Alike p q → Alike (must is p) (must its q)
     must_alike is its p q s o = λ x y h. go h
@@ -132,7 +139,7 @@ module _ {One Two Item : Type 0} (w : Ways One Two Item) where
 
         go : {x : List One} {y : List Two} → Along w x y → Both (must is p x) (must its q y)
         go ended = (refl, ended)
-        go (token {u = u} {t = t} {x = x} {y = y} e h) = taken (is u) (its t) u t x y (s.same u t e) (token e h) h
+        go (token {u = u} {t = t} {x = x} {y = y} e c h) = taken (is u) (its t) u t x y (s.same u t e) (token e c h) h
         go (barred {u = u} {t = t} {x = x} {y = y} e b h) = stopped (is u) (its t) u t x y (s.same u t e) (s.passes t b) (barred e b h)
 
   -- one after the other
@@ -162,7 +169,11 @@ module _ {One Two Item : Type 0} (w : Ways One Two Item) where
   and_go_stays (Go q) g z = absurd z
 
   pub then_alike : {A B : Type 0} (k : One → Move One A) (m : Two → Move Two A) (f : A → Parser One B) (g : A → Parser Two B) → AlikeMoves k m → ((a : A) → Alike (f a) (g a)) → AlikeMoves (λ u. and_go (k u) f) (λ t. and_go (m t) g)
-  then_alike k m f g s h = record { moves = λ u t e. and_go_alike (k u) (m t) f g (s.moves u t e) h; stays = λ t b. and_go_stays (m t) g (s.stays t b) }
+  then_alike k m f g s h = record {
+    moves = λ u t e c. and_go_alike (k u) (m t) f g (s.moves u t e c) h;
+    barred = λ u t e b. and_go_alike (k u) (m t) f g (s.barred u t e b) h;
+    stays = λ t b. and_go_stays (m t) g (s.stays t b);
+  }
 
   -- levels
   pub deeper_alike : {A : Type 0} (p : ℕ → Parser One A) (q : ℕ → Parser Two A) (r : ℕ) → ((m : ℕ) → r ≡ suc m → Alike (p m) (q m)) → AlikeMove (deeper p r) (deeper q r)
@@ -175,7 +186,7 @@ module _ {One Two Item : Type 0} (w : Ways One Two Item) where
     where
       go : {x : List One} {y : List Two} → Along w x y → fault_at begins x ≡ fault_at starts y
       go ended = refl
-      go (token {u = u} {t = t} e h) = rw (s u t e) refl
+      go (token {u = u} {t = t} e c h) = rw (s u t e) refl
       go (barred {u = u} {t = t} e b h) = rw (s u t e) refl
 
   pub level_alike : {A : Type 0} (begins : One → Bool) (starts : Two → Bool) (p : ℕ → Parser One A) (q : ℕ → Parser Two A) (r : ℕ) → ((u : One) (t : Two) → w.one u ≡ w.two t → begins u ≡ starts t) → ((m : ℕ) → r ≡ suc m → Alike (p m) (q m))
@@ -211,7 +222,7 @@ module _ {One Two Item : Type 0} (w : Ways One Two Item) where
     second_of = record { operator = its; joined = joined; height = height; operand = other }
 
     operate_alike : (r k : ℕ) (right : Parser One A) (left : Parser Two A) (a : A) → Alike right left → AlikeMoves (operate first_of r k right a) (operate second_of r k left a)
-    operate_alike r k right left a h = record { moves = λ u t e. go (operator k u) (its k t) (same k u t e); stays = λ t b. calm (its k t) (passes k t b) }
+    operate_alike r k right left a h = alike_moves (λ u t e. go (operator k u) (its k t) (same k u t e)) (λ t b. calm (its k t) (passes k t b))
       where
         fits : (b : Bool) (o : O) → AlikeMove (cond b (Go (right >>= λ b. pure (joined o a b))) Deep) (cond b (Go (left >>= λ b. pure (joined o a b))) Deep)
         fits true o = bind_alike right left (λ b. pure (joined o a b)) (λ b. pure (joined o a b)) h (λ b. pure_alike (joined o a b))

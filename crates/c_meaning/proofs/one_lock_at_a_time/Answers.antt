@@ -1,4 +1,4 @@
-use Rattle.c_meaning.proofs.Kept.{never_stuck}
+use Rattle.c_meaning.proofs.NotStuck.{never_stuck}
 use Rattle.c_meaning.proofs.one_lock_at_a_time.Goals as goal
 
 pub returns : goal.returns

@@ -1,11 +1,20 @@
-use Rattle.std.proofs.Common.{◌∙◌}
+use Rattle.std.specs.Prelude.{Ok, Err}
+use Rattle.c_parser.specs.declared.error.ParseError.TheVariants.{Lex, Syntax, TooDeep, TooManyTokens}
+use Rattle.c_parser.specs.Answer.{shown}
+use Rattle.c_parser.proofs.OneAnswer.{answer_is}
 use Rattle.c_parser.proofs.parser.parse.Goals as goal
 
-pub returns-clause-spelled : goal.returns-clause-spelled
-returns-clause-spelled c = record {
-  tokens = c.in_ok-all.all;
-  lexed = c.in_ok-all.ensures.lexed;
-  few = c.in_ok-all.ensures.few;
-  spelled = rw c.as_slice.ensures at c.in_ok-program.ensures.spelled;
-  end_line = c.in_ok-program.ensures.line ∙ c.end_line.ensures;
-}
+pub returns-clause-program : goal.returns-clause-program
+returns-clause-program c = λ p y. answer_is c.args.text.now (shown c.parse_tokens.result) (Ok p) c.parse_tokens.ensures tt y
+
+pub returns-clause-lex : goal.returns-clause-lex
+returns-clause-lex c = λ e y. answer_is c.args.text.now (shown c.parse_tokens.result) (Err (Lex e)) c.parse_tokens.ensures tt y
+
+pub returns-clause-syntax : goal.returns-clause-syntax
+returns-clause-syntax c = λ on y. answer_is c.args.text.now (shown c.parse_tokens.result) (Err (Syntax on)) c.parse_tokens.ensures tt y
+
+pub returns-clause-too_deep : goal.returns-clause-too_deep
+returns-clause-too_deep c = λ on y. answer_is c.args.text.now (shown c.parse_tokens.result) (Err (TooDeep on)) c.parse_tokens.ensures tt y
+
+pub returns-clause-too_many : goal.returns-clause-too_many
+returns-clause-too_many c = λ y. answer_is c.args.text.now (shown c.parse_tokens.result) (Err TooManyTokens) c.parse_tokens.ensures tt y

@@ -2,7 +2,7 @@ use Rattle.std.proofs.Common.{◌∙◌, ap}
 use Rattle.c_layout.specs.Layout.{text}
 use Rattle.c_layout.proofs.Readings.{text_append}
 use Rattle.c_tree.specs.Expressions.{expr_of, exprs_of}
-use Rattle.c_print.specs.Expressions.{expression, expressions, followed, separated}
+use Rattle.c_canonical.specs.Expressions.{expression, expressions, followed, separated}
 use Rattle.c_print.proofs.Chains.{chain2}
 use Rattle.c_print.proofs.acts.arguments.Goals as goal
 

@@ -3,7 +3,7 @@ use Rattle.c_layout.specs.Layout.{text}
 use Rattle.c_layout.proofs.Readings.{text_append}
 use Rattle.c_tree.specs.declared.expr.Expr.{Expr}
 use Rattle.c_tree.specs.Expressions.{expr_of, exprs_of}
-use Rattle.c_print.specs.Expressions.{expression, expressions, followed}
+use Rattle.c_canonical.specs.Expressions.{expression, expressions, followed}
 use Rattle.c_print.proofs.Loops.{turn, ended}
 use Rattle.c_print.proofs.acts.following.Goals as goal
 

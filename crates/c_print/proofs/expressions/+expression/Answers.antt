@@ -1,6 +1,6 @@
 use Rattle.std.proofs.Common.{refl, ap, ◌∙◌, rules}
 use Rattle.c_tree.specs.Expressions.{expr_of}
-use Rattle.c_print.specs.Expressions.{expression}
+use Rattle.c_canonical.specs.Expressions.{expression}
 use Rattle.c_print.proofs.Texts.{element_of, arg_of, not_of, minus_of, binary_of, element_text, arg_text, not_text, minus_text, binary_text, wrapped_text}
 use Rattle.c_print.proofs.expressions.+expression.Goals as goal
 

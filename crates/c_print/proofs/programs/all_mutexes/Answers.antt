@@ -2,7 +2,7 @@ use Rattle.std.proofs.Common.{◌++◌, sym, ap, ◌∙◌}
 use Rattle.std.specs.List.{flat_map}
 use Rattle.c_layout.specs.Layout.{text}
 use Rattle.c_tree.specs.Lined.{bare_object}
-use Rattle.c_print.specs.Programs.{mutex}
+use Rattle.c_canonical.specs.Programs.{mutex}
 use Rattle.c_print.proofs.Loops.{mapped}
 use Rattle.c_print.proofs.programs.all_mutexes.Goals as goal
 

@@ -1,7 +1,7 @@
 use Rattle.std.proofs.Common.{◌≡◌, ◌++◌, drop}
 use Rattle.std.specs.List.{flat_map}
 use Rattle.c_tree.specs.Lined.{bare_cell}
-use Rattle.c_print.specs.Programs.{cell}
+use Rattle.c_canonical.specs.Programs.{cell}
 use Rattle.c_layout.specs.Layout.{text}
 use Rattle.c_print.proofs.programs.cells.Given as goal
 

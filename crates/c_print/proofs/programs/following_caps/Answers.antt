@@ -1,7 +1,7 @@
 use Rattle.std.proofs.Common.{◌++◌, get_or, map, refl, arith, rules}
 use Rattle.std.proofs.lemmas.Grind.{common_steps}
-use Rattle.c_print.specs.Expressions.{followed}
-use Rattle.c_print.specs.Programs.{capacity}
+use Rattle.c_canonical.specs.Expressions.{followed}
+use Rattle.c_canonical.specs.Programs.{capacity}
 use Rattle.c_layout.specs.Layout.{text}
 use Rattle.c_print.proofs.Loops.{ended}
 use Rattle.c_print.proofs.ProgramTexts.{next_item}

@@ -1,6 +1,6 @@
 use Rattle.std.proofs.Common.{◌≡◌, ◌++◌, drop, map}
-use Rattle.c_print.specs.Expressions.{followed}
-use Rattle.c_print.specs.Programs.{capacity}
+use Rattle.c_canonical.specs.Expressions.{followed}
+use Rattle.c_canonical.specs.Programs.{capacity}
 use Rattle.c_layout.specs.Layout.{text}
 use Rattle.c_print.proofs.programs.following_caps.Given as goal
 

@@ -1,6 +1,6 @@
 use Rattle.std.proofs.Common.{◌++◌, ◌-◌, ◌+◌, [], ◌∷◌, replicate, arith}
 use Rattle.c_layout.specs.Layout.{text, word}
-use Rattle.c_print.specs.Expressions.{followed}
+use Rattle.c_canonical.specs.Expressions.{followed}
 use Rattle.c_print.proofs.ProgramTexts.{next_initialiser, last_initialiser}
 use Rattle.c_print.proofs.programs.following_initialisers.Goals as goal
 

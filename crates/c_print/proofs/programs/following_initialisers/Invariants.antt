@@ -1,6 +1,6 @@
 use Rattle.std.proofs.Common.{◌≡◌, ◌++◌, ◌-◌, [], ◌∷◌, replicate}
 use Rattle.c_layout.specs.Layout.{text, word}
-use Rattle.c_print.specs.Expressions.{followed}
+use Rattle.c_canonical.specs.Expressions.{followed}
 use Rattle.c_print.proofs.programs.following_initialisers.Given as goal
 
 -- what is added and what is left make the whole

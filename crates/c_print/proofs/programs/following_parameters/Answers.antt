@@ -1,6 +1,6 @@
 use Rattle.std.proofs.Common.{◌++◌, map, refl}
-use Rattle.c_print.specs.Expressions.{followed}
-use Rattle.c_print.specs.Programs.{parameter}
+use Rattle.c_canonical.specs.Expressions.{followed}
+use Rattle.c_canonical.specs.Programs.{parameter}
 use Rattle.c_layout.specs.Layout.{text}
 use Rattle.c_print.proofs.Loops.{ended}
 use Rattle.c_print.proofs.ProgramTexts.{next_item}

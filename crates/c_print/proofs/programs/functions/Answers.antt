@@ -1,7 +1,7 @@
 use Rattle.std.proofs.Common.{◌++◌, refl}
 use Rattle.std.specs.List.{flat_map}
 use Rattle.c_tree.specs.Lined.{bare_function, function_of}
-use Rattle.c_print.specs.Programs.{function}
+use Rattle.c_canonical.specs.Programs.{function}
 use Rattle.c_layout.specs.Layout.{text}
 use Rattle.c_print.proofs.Loops.{ended}
 use Rattle.c_print.proofs.ProgramTexts.{next_line}

@@ -3,7 +3,7 @@ use Rattle.std.proofs.lemmas.Grind.{common_steps}
 use Rattle.c_layout.specs.Layout.{text}
 use Rattle.c_tree.specs.Expressions.{expr_of}
 use Rattle.c_tree.specs.Lined.{stmt_of, stmts_of, bare_stmt, bare_stmts}
-use Rattle.c_print.specs.Statements.{block, deeper, statement, statements, otherwise}
+use Rattle.c_canonical.specs.Statements.{block, deeper, statement, statements, otherwise}
 use Rattle.c_print.proofs.Chains.{chain2}
 use Rattle.c_print.proofs.Loops.{ended}
 use Rattle.c_print.proofs.BlockTexts.{block_text, if_text, while_text, for_text, chained, braced, lines_of, line_text}

@@ -1,7 +1,7 @@
 use Rattle.std.proofs.Common.{◌≡◌, ◌++◌, drop}
 use Rattle.c_layout.specs.Layout.{text}
 use Rattle.c_tree.specs.Lined.{stmts_of, bare_stmts}
-use Rattle.c_print.specs.Statements.{statements}
+use Rattle.c_canonical.specs.Statements.{statements}
 use Rattle.c_print.proofs.statements.+statement.Given as goal
 
 -- what is added and what is left make the whole

@@ -3,7 +3,7 @@ use Rattle.c_lexer.specs.declared.token.Sign.TheVariants as signs
 use Rattle.c_layout.specs.Layout.{text, sign}
 use Rattle.c_layout.proofs.Readings.{text_append}
 use Rattle.c_tree.specs.Lined.{stmt_of, bare_stmt}
-use Rattle.c_print.specs.Statements.{simple}
+use Rattle.c_canonical.specs.Statements.{simple}
 use Rattle.c_print.proofs.Chains.{chain2}
 use Rattle.c_print.proofs.statements.one_line.Goals as goal
 

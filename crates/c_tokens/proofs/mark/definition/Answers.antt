@@ -1,4 +1,3 @@
-use Rattle.std.proofs.Common.{refl, sym, ◌∙◌, ap}
 use Rattle.c_tokens.proofs.Tables.{told_before, defines_more}
 use Rattle.c_tokens.proofs.mark.definition.Goals as goal
 

@@ -1,6 +1,5 @@
 use Rattle.std.proofs.Common.{subst, List, ℕ}
 use Rattle.c_tokens.specs.Sees.{SeesDefinition}
-use Rattle.c_expressions.specs.declared.token.What as declared
 use Rattle.c_tokens.proofs.Seen.{sees_name, sees_text, sees_definition, sees_answer}
 use Rattle.c_tokens.proofs.mark.what.Goals as goal
 

@@ -1,4 +1,4 @@
-use Rattle.std.proofs.Common.{refl, sym, subst, arith, List, ℕ, length, take, drop, Option, Ok, Some}
+use Rattle.std.proofs.Common.{refl, subst, arith, List, ℕ, length, take, drop, Option, Ok}
 use Rattle.c_lexer.specs.declared.token.Token.{Token}
 use Rattle.c_lexer.specs.declared.token.Span.{Span}
 use Rattle.c_lexer.specs.Tokens.{Next}

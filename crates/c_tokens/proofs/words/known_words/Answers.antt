@@ -1,4 +1,4 @@
-use Rattle.std.proofs.Common.{◌∙◌, ap, refl, Option, None}
+use Rattle.std.proofs.Common.{◌∙◌, ap, Option}
 use Rattle.c_expressions.specs.declared.token.What as declared
 use Rattle.c_tokens.specs.Known.{latest, latest_keyword, others}
 use Rattle.c_tokens.proofs.Tables.{words_known, names_table, keywords_table, found_empty}

@@ -1,6 +1,8 @@
+use Rattle.answers.specs.Tasks.{texts}
 use Rattle.gadara_tool.proofs.Derived.{where_told, exact_ends, status_ends, cause_ends, quiet_ends, unwritten_ends, usage_ends, shapes_end}
-use Rattle.gadara_tool.proofs.Causes.{decided_status, limit_status, too_long_ends, absent_ends}
-use Rattle.gadara_tool.proofs.Instrumented.{done_ends, refused_ends}
+use Rattle.gadara_tool.proofs.Causes.{decided_status, too_long_ends, absent_ends}
+use Rattle.gadara_tool.proofs.One.{answers_one, ends_by_file}
+use Rattle.gadara_tool.proofs.Instrumented.{done_ends, refused_ends, limit_ends}
 use Rattle.gadara_tool.proofs.top.gadara.Goals as goal
 
 pub returns-clause-done : goal.returns-clause-done
@@ -25,7 +27,13 @@ pub returns-clause-decided : goal.returns-clause-decided
 returns-clause-decided g c = λ decides other. where_told _ _ (λ files told. decided_status _ files _ _ _ (status_ends _ _ _ _ (rw c.deref.ensures.value at c.perform.ensures.ends) files told) decides other)
 
 pub returns-clause-limit : goal.returns-clause-limit
-returns-clause-limit g c = λ limit. where_told _ _ (λ files told. limit_status _ files _ _ _ (status_ends _ _ _ _ (rw c.deref.ensures.value at c.perform.ensures.ends) files told) limit)
+returns-clause-limit g c = λ limit. where_told _ _ (λ files told. limit_ends _ _ _ _ (rw c.deref.ensures.value at c.perform.ensures.ends) limit files told)
+
+pub returns-clause-answer : goal.returns-clause-answer
+returns-clause-answer g c = where_told _ _ (λ files told. ends_by_file _ _ _ _ (rw c.deref.ensures.value at c.perform.ensures.ends) files told)
+
+pub returns-clause-one : goal.returns-clause-one
+returns-clause-one g c = λ files answer other x y. answers_one (texts c.args.words.now.items) files answer other x y
 
 pub returns-clause-too_long : goal.returns-clause-too_long
 returns-clause-too_long g c = where_told _ _ (λ files told. too_long_ends _ _ _ _ (rw c.deref.ensures.value at c.perform.ensures.ends) files told)

@@ -1,0 +1,4 @@
+pub mod Free
+pub mod Along
+pub mod Outer
+pub mod Programs

@@ -1,0 +1,86 @@
+-- Statements, arms and lists of them that seen items spell are shaped and writable.
+use Rattle.std.proofs.Common.{Bool, List, arith}
+use Rattle.c_tree.specs.declared.program.Kind.{Kind}
+use Rattle.c_tree.specs.Expressions.{Expr}
+use Rattle.c_tree.specs.Bare.{Stmts, Nil, Cons, Assign}
+use Rattle.c_tree.specs.Lined.{Stmt, listed, bare_stmts}
+use Rattle.c_grammar.specs.Items.{Item}
+use Rattle.c_grammar.specs.Levels.{Tall}
+use Rattle.c_grammar.specs.Statements as st
+use Rattle.c_grammar.specs.Statements.{SpellsFirst, SpellsTest, SpellsLast, SpellsStatement, SpellsArm, SpellsList}
+use Rattle.c_canonical.specs.Writable.{AreWritableStmts}
+use Rattle.c_canonical.specs.Shaped.{ShapedStep, ShapedFirst}
+use Rattle.c_canonical.proofs.Seen.{Seen}
+use Rattle.c_canonical.proofs.Usable.{name_known}
+use Rattle.c_canonical.proofs.KnownExpressions.{Known, expression_known}
+use Rattle.c_canonical.proofs.KnownSimple.{KnownStmts, shaped_append, writable_append, KnownStep, step_known, simple_known}
+
+-- ---- the parts of a `for`
+
+-- What is known of the first part of a `for`, and of the items after it.
+record KnownFirst (all : List Stmt) (rest : List Item) : Type 0 where
+  pub shaped : ShapedFirst (bare_stmts (listed all))
+  pub writable : AreWritableStmts (bare_stmts (listed all))
+  pub after : Seen rest
+
+step_is_first : (ss : Stmts) → ShapedStep ss → ShapedFirst ss
+step_is_first Nil f = tt
+step_is_first (Cons (Assign target value) Nil) f = f
+step_is_first (Cons _ _) f = absurd f
+
+first_known : {ts rest : List Item} {y : Tall (List Stmt)} → SpellsFirst ts rest y → Seen ts → KnownFirst y.tree rest
+first_known st.none s = record { shaped = tt; writable = tt; after = s }
+first_known (st.declare {a = a} {x = n} q h) s =
+    let m = name_known a n s.1.0 q in
+    let v = expression_known h s.1.1.1 in
+    record { shaped = (m.0, v.shaped); writable = ((m.1, v.writable), tt); after = v.after }
+first_known (st.step h) s = let v = step_known h s in record { shaped = step_is_first _ v.shaped; writable = v.writable; after = v.after }
+
+test_known : {ts rest : List Item} {y : Tall Expr} → SpellsTest ts rest y → Seen ts → Known y.tree rest
+test_known st.missing s = record { shaped = tt; writable = omega arith; after = s }
+test_known (st.given h) s = expression_known h s
+
+last_known : {ts rest : List Item} {y : Tall (List Stmt)} → SpellsLast ts rest y → Seen ts → KnownStep y.tree rest
+last_known st.none s = record { shaped = tt; writable = tt; after = s }
+last_known (st.step h) s = step_known h s
+
+-- ---- statements
+
+mutual
+  pub statement_known : {k : Kind} {b : Bool} {ts rest : List Item} {y : Tall (List Stmt)} → SpellsStatement k b ts rest y → Seen ts → KnownStmts k y.tree rest
+  statement_known (st.simple h) s = let v = simple_known h s in record { shaped = v.shaped; writable = v.writable; after = v.after.1 }
+  statement_known st.empty s = record { shaped = tt; writable = tt; after = s.1 }
+  statement_known (st.if_only h i) s =
+      let e = expression_known h s.1.1 in
+      let one = arm_known i e.after.1 in
+      record { shaped = ((e.shaped, one.shaped, tt), tt); writable = ((e.writable, one.writable, tt), tt); after = one.after }
+  statement_known (st.if_else h i j) s =
+      let e = expression_known h s.1.1 in
+      let one = arm_known i e.after.1 in
+      let two = arm_known j one.after.1 in
+      record { shaped = ((e.shaped, one.shaped, two.shaped), tt); writable = ((e.writable, one.writable, two.writable), tt); after = two.after }
+  statement_known (st.while h i) s =
+      let e = expression_known h s.1.1 in
+      let body = arm_known i e.after.1 in
+      record { shaped = ((e.shaped, body.shaped), tt); writable = ((e.writable, body.writable), tt); after = body.after }
+  statement_known (st.for h t l i) s =
+      let first = first_known h s.1.1 in
+      let e = test_known t first.after.1 in
+      let last = last_known l e.after.1 in
+      let body = arm_known i last.after.1 in
+      record {
+        shaped = ((first.shaped, e.shaped, last.shaped, body.shaped), tt);
+        writable = ((first.writable, e.writable, last.writable, body.writable), tt);
+        after = body.after;
+      }
+
+  pub arm_known : {k : Kind} {b : Bool} {ts rest : List Item} {y : Tall (List Stmt)} → SpellsArm k b ts rest y → Seen ts → KnownStmts k y.tree rest
+  arm_known (st.braces h) s = let v = list_known h s.1 in record { shaped = v.shaped; writable = v.writable; after = v.after.1 }
+  arm_known (st.single h) s = statement_known h s
+
+  pub list_known : {k : Kind} {ts rest : List Item} {y : Tall (List Stmt)} → SpellsList k ts rest y → Seen ts → KnownStmts k y.tree rest
+  list_known st.none s = record { shaped = tt; writable = tt; after = s }
+  list_known {k = k} (st.then {all = all} {x = x} h i) s =
+      let xs = list_known h s in
+      let y = statement_known i xs.after in
+      record { shaped = shaped_append k all.tree x.tree xs.shaped y.shaped; writable = writable_append all.tree x.tree xs.writable y.writable; after = y.after }

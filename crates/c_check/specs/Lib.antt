@@ -1,0 +1,11 @@
+pub mod First
+pub mod Uses
+pub mod Acts
+pub mod Walk
+pub mod Own
+pub mod Functions
+pub mod Outer
+pub mod Breaks
+pub mod Tables
+pub mod Checked
+pub mod Written

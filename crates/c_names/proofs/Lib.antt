@@ -1,0 +1,4 @@
+mod Originals
+mod Lists
+mod Scopes
+mod Declared

@@ -1,7 +1,0 @@
-use Rattle.std.proofs.Common.{map}
-use Rattle.c_tree.specs.Lined.{stmt_of}
-use Rattle.c_parser.specs.Grammar.{Repeats, SpellsAct}
-use Rattle.c_parser.proofs.thread.acts.Given as goal
-
-abbrev pub invariant-loop : goal.invariant-loop
-invariant-loop l = Repeats SpellsAct l.fn.tokens.rest.now l.tokens.rest.now (map stmt_of l.all)

@@ -1,0 +1,5 @@
+use Rattle.c_rules.proofs.ThreadSampled.{threads_are_joined_at_fixed_places}
+use Rattle.c_rules.proofs.samples.threads_are_joined_at_fixed_places.Goals as goal
+
+pub returns : goal.returns
+returns c = threads_are_joined_at_fixed_places

@@ -1,0 +1,17 @@
+pub mod Names
+pub mod Declarations
+pub mod Sites
+pub mod Uses
+pub mod Meaning
+pub mod Naming
+pub mod Using
+pub mod Threads
+pub mod Objects
+pub mod Counts
+pub mod Formed
+pub mod Samples
+pub mod NamingSamples
+pub mod UsingSamples
+pub mod ThreadSamples
+pub mod CountSamples
+pub mod FirstSamples

@@ -1,0 +1,5 @@
+// Texts that are printed and read again.
+
+pub mod canonical;
+pub mod locks;
+pub mod waits;
