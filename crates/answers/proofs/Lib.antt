@@ -1,2 +1,4 @@
 pub mod Accepting
+pub mod Judging
 pub mod OneAnswer
+pub mod EachText

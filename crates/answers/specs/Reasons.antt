@@ -1,7 +1,13 @@
--- Why the lexer refuses a text, in words.
+-- Why a text is refused, in words.
 use Rattle.std.specs.Prelude.{ℕ, List, codes}
 use Rattle.c_lexer.specs.declared.token.LexError.{LexError}
 use Rattle.c_lexer.specs.declared.token.LexError.TheVariants as e
+use Rattle.c_rules.specs.declared.rule.Rule.{Rule}
+use Rattle.c_rules.specs.declared.rule.Rule.TheVariants as r
+use Rattle.c_rules.specs.declared.rule.Count.{Count}
+use Rattle.c_rules.specs.declared.rule.Count.TheVariants as c
+
+-- ---- by the lexer
 
 abbrev pub line_of : LexError → ℕ
 line_of (e.BadByte line) = line
@@ -20,3 +26,28 @@ reason_of (e.NumberTooLarge line) = codes "number is larger than 2147483647"
 reason_of (e.LongName line) = codes "name is longer than 63 characters"
 reason_of (e.BadText line) = codes "text outside the profile"
 reason_of (e.BadLine line) = codes "preprocessor line outside the profile"
+
+-- ---- by a rule of well-formed programs
+
+abbrev pub reason_of_rule : Rule → List ℕ
+reason_of_rule r.Reserved = codes "reserved name"
+reason_of_rule r.LongName = codes "function name is longer than 56 characters"
+reason_of_rule r.Twice = codes "name declared twice"
+reason_of_rule r.Unknown = codes "unknown name"
+reason_of_rule r.WrongKind = codes "name of another kind"
+reason_of_rule r.WrongCount = codes "wrong count"
+reason_of_rule r.Recursion = codes "recursion"
+reason_of_rule r.NoMain = codes "no main"
+reason_of_rule r.CreateNotFixed = codes "thread not created at a fixed place"
+reason_of_rule r.JoinNotFixed = codes "thread not joined at a fixed place"
+reason_of_rule r.ArgNotConstant = codes "thread argument is not constant"
+reason_of_rule r.InitLate = codes "object initialised too late"
+reason_of_rule r.IndexRange = codes "index out of range"
+
+-- ---- what is counted, as a limit names it
+
+abbrev pub name_of_count : Count → List ℕ
+name_of_count c.Threads = codes "threads"
+name_of_count c.Mutexes = codes "mutexes"
+name_of_count c.Monitors = codes "monitors"
+name_of_count c.Cells = codes "cells"

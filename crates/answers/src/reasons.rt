@@ -1,7 +1,8 @@
-// Why the lexer refuses a text, in words.
+// Why a text is refused, in words.
 ghost use Rattle.std.specs.Prelude.{◌≡◌};
-ghost use Rattle.answers.specs.Reasons.{line_of, reason_of};
+ghost use Rattle.answers.specs.Reasons.{line_of, reason_of, reason_of_rule, name_of_count};
 
+use c_check::{Count, Rule};
 use c_lexer::LexError;
 
 /// The line of a refusal.
@@ -31,5 +32,38 @@ pub fn reason_of(error: LexError) -> &'static str
         LexError::LongName { .. } => "name is longer than 63 characters",
         LexError::BadText { .. } => "text outside the profile",
         LexError::BadLine { .. } => "preprocessor line outside the profile",
+    }
+}
+
+/// The reason of a rule that is broken.
+pub fn reason_of_rule(rule: Rule) -> &'static str
+    ensures { result.now ≡ reason_of_rule rule }
+{
+    match rule {
+        Rule::Reserved => "reserved name",
+        Rule::LongName => "function name is longer than 56 characters",
+        Rule::Twice => "name declared twice",
+        Rule::Unknown => "unknown name",
+        Rule::WrongKind => "name of another kind",
+        Rule::WrongCount => "wrong count",
+        Rule::Recursion => "recursion",
+        Rule::NoMain => "no main",
+        Rule::CreateNotFixed => "thread not created at a fixed place",
+        Rule::JoinNotFixed => "thread not joined at a fixed place",
+        Rule::ArgNotConstant => "thread argument is not constant",
+        Rule::InitLate => "object initialised too late",
+        Rule::IndexRange => "index out of range",
+    }
+}
+
+/// The name of what a program may have only so many of.
+pub fn name_of_count(what: Count) -> &'static str
+    ensures { result.now ≡ name_of_count what }
+{
+    match what {
+        Count::Threads => "threads",
+        Count::Mutexes => "mutexes",
+        Count::Monitors => "monitors",
+        Count::Cells => "cells",
     }
 }

@@ -19,10 +19,10 @@ use Rattle.c_rules.specs.Using.{is_misused, is_miscounted, has_too_many_values, 
 use Rattle.c_rules.specs.Objects.{is_beyond, has_no_member, has_no_object, has_no_slot, empty_capacity_lines}
 use Rattle.c_rules.specs.Formed.{broken_lines}
 use Rattle.c_rules.proofs.Members.{In, in_append_left, in_append_right, in_append_cases, in_flat_map, from_flat_map, From, from, from_map, Image, image, from_any, Passing, passing}
-use Rattle.c_check.specs.declared.first.Break.{Break}
-use Rattle.c_check.specs.First.{break, break_if}
-use Rattle.c_check.specs.Uses.{use_breaks}
-use Rattle.c_check.specs.Acts.{outer_clash, is_source}
+use Rattle.c_acts.specs.declared.first.Break.{Break}
+use Rattle.c_acts.specs.First.{break, break_if}
+use Rattle.c_acts.specs.Uses.{use_breaks}
+use Rattle.c_acts.specs.Acts.{outer_clash, is_source}
 use Rattle.c_check.specs.Outer.{array_breaks, object_breaks, slot_breaks, length_breaks, capacity_breaks, outer_breaks}
 use Rattle.c_check.specs.Breaks.{none_told, all_breaks}
 use Rattle.c_check.proofs.Where.{in_if, Stands, stands, from_where, Item, item, from_lines}

@@ -5,9 +5,9 @@ use Rattle.c_rules.specs.declared.rule.Rule.TheVariants.{Twice}
 use Rattle.c_rules.specs.Declarations.{Declaration, earlier, earliest}
 use Rattle.c_rules.proofs.Members.{In}
 use Rattle.c_names.specs.Tables.{behind}
-use Rattle.c_check.specs.declared.first.Break.{Break}
-use Rattle.c_check.specs.First.{break}
-use Rattle.c_check.specs.Acts.{outer_clash}
+use Rattle.c_acts.specs.declared.first.Break.{Break}
+use Rattle.c_acts.specs.First.{break}
+use Rattle.c_acts.specs.Acts.{outer_clash}
 
 -- there is none, or this one is there and on no later line than the others
 pub data First (ds : List Declaration) : Option Declaration → Type 0 where

@@ -13,7 +13,7 @@ use Rattle.c_rules.specs.declared.rule.Count.{Count}
 use Rattle.c_rules.specs.declared.rule.Count.TheVariants as count
 use Rattle.c_rules.specs.Counts.{amount, limit}
 use Rattle.c_check.specs.Tables.{object_count, starts_of, start_of, Numbered, numbered_from, resource_in, numbers_of}
-use Rattle.c_check.specs.declared.table.Start.{Start}
+use Rattle.c_check.specs.declared.numbers.Start.{Start}
 
 mapped : (p : bare.Program) (cs : List Creation) → length (map (start_of p) cs) ≡ length cs
 mapped p [] = refl

@@ -3,8 +3,8 @@ use Rattle.std.proofs.Common.{◌≡◌, ℕ, ◌<◌, ◌≤◌, ◌==◌, Bool
 use Rattle.std.specs.declared.option.Option.{Option}
 use Rattle.c_rules.specs.Formed.{rank}
 use Rattle.c_rules.proofs.Members.{In}
-use Rattle.c_check.specs.declared.first.Break.{Break}
-use Rattle.c_check.specs.First.{comes_first, noted_all}
+use Rattle.c_acts.specs.declared.first.Break.{Break}
+use Rattle.c_acts.specs.First.{comes_first, noted_all}
 
 -- it stands above the other, or at its line and no later in the order of the rules
 abbrev pub Before : Break → Break → Type 0

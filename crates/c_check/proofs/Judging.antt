@@ -16,8 +16,8 @@ use Rattle.c_rules.specs.Using.{calls}
 use Rattle.c_rules.specs.Objects.{is_init}
 use Rattle.c_rules.specs.Formed.{broken_lines, KeepsRules, FirstBreak}
 use Rattle.c_rules.proofs.Members.{In, in_of, contains_of, in_append_left, in_append_cases, in_flat_map}
-use Rattle.c_check.specs.declared.first.Break.{Break}
-use Rattle.c_check.specs.First.{break, noted_all}
+use Rattle.c_acts.specs.declared.first.Break.{Break}
+use Rattle.c_acts.specs.First.{break, noted_all}
 use Rattle.c_check.specs.Outer.{length_breaks}
 use Rattle.c_check.specs.Breaks.{all_breaks}
 use Rattle.c_check.proofs.Firsts.{Led, none, one, led, Before, before_third}

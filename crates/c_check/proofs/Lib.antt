@@ -1,9 +1,7 @@
-mod Noted
-mod Loops
 mod Shown
 mod Walks
 mod Acting
-mod Slots
+mod Kept
 mod Owned
 mod Wholes
 mod Outers

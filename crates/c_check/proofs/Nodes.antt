@@ -8,12 +8,12 @@ use Rattle.c_rules.specs.Names.{mentions}
 use Rattle.c_rules.specs.Sites.{Standing, declared, locals_of, inside, listed}
 use Rattle.c_rules.specs.Uses.{of_expr}
 use Rattle.c_rules.specs.Objects.{is_active, has_active}
-use Rattle.c_check.specs.declared.first.Break.{Break}
-use Rattle.c_check.specs.Uses.{Around, uses_breaks}
-use Rattle.c_check.specs.Acts.{declare_breaks, act_breaks}
+use Rattle.c_acts.specs.declared.first.Break.{Break}
+use Rattle.c_acts.specs.Uses.{Around, uses_breaks}
+use Rattle.c_acts.specs.Acts.{declare_breaks, act_breaks}
 use Rattle.c_check.specs.Walk.{with_names, stmt_breaks, list_breaks}
 use Rattle.c_check.specs.Own.{acts, list_acts}
-use Rattle.c_check.proofs.Noted.{flat_append}
+use Rattle.c_acts.proofs.Noted.{flat_append}
 use Rattle.c_check.proofs.Walks.{Names, same_tests}
 
 -- what a statement itself breaks

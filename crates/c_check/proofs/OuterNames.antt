@@ -8,9 +8,9 @@ use Rattle.c_rules.specs.declared.rule.Rule.TheVariants.{Reserved, Twice}
 use Rattle.c_rules.specs.Declarations.{Declaration, named, earliest}
 use Rattle.c_rules.specs.Naming.{is_taken_for, outer_pairs}
 use Rattle.c_rules.proofs.Members.{In, in_append_left, in_append_right, in_append_cases, in_map, in_filter, from_map, from_filter, Image, image}
-use Rattle.c_check.specs.declared.first.Break.{Break}
-use Rattle.c_check.specs.First.{break, break_if}
-use Rattle.c_check.specs.Acts.{outer_clash}
+use Rattle.c_acts.specs.declared.first.Break.{Break}
+use Rattle.c_acts.specs.First.{break, break_if}
+use Rattle.c_acts.specs.Acts.{outer_clash}
 use Rattle.c_check.specs.Outer.{declaration_breaks, one_joined, all_joined, outer_breaks}
 use Rattle.c_check.proofs.Firsts.{Before}
 use Rattle.c_check.proofs.Where.{in_if, from_if}

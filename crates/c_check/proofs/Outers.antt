@@ -7,10 +7,10 @@ use Rattle.c_tree.specs.declared.program.Mode.{Mode}
 use Rattle.c_rules.specs.Declarations.{Declaration}
 use Rattle.c_names.specs.declared.outer.Declaration as declared
 use Rattle.c_names.specs.Shown.{shown, all_shown}
-use Rattle.c_check.specs.declared.first.Break.{Break}
-use Rattle.c_check.specs.First.{noted_all}
+use Rattle.c_acts.specs.declared.first.Break.{Break}
+use Rattle.c_acts.specs.First.{noted_all}
 use Rattle.c_check.specs.Outer.{declaration_breaks, one_joined, all_joined, outer_breaks}
-use Rattle.c_check.proofs.Noted.{noted_append, noted_both}
+use Rattle.c_acts.proofs.Noted.{noted_append, noted_both}
 
 pub same_told : (f g : List ℕ → Option Declaration) → ((n : List ℕ) → f n ≡ g n) → f ≡ g
 same_told f g h = λ i n. h n i

@@ -6,12 +6,12 @@ use Rattle.c_tree.specs.declared.stmt.Stmt as declared_stmt
 use Rattle.c_tree.specs.Expressions.{Place}
 use Rattle.c_tree.specs.Lined.{Stmt, stmt_of, stmts_of}
 use Rattle.c_rules.specs.Sites.{declared}
-use Rattle.c_check.specs.declared.first.Break.{Break}
-use Rattle.c_check.specs.First.{noted_all}
-use Rattle.c_check.specs.Uses.{Around}
+use Rattle.c_acts.specs.declared.first.Break.{Break}
+use Rattle.c_acts.specs.First.{noted_all}
+use Rattle.c_acts.specs.Uses.{Around}
 use Rattle.c_check.specs.Walk.{with_names, stmt_breaks}
 use Rattle.c_check.specs.Own.{Past, acts, create_added, join_added, added, is_unfixed, is_late, own_breaks}
-use Rattle.c_check.proofs.Noted.{noted_append}
+use Rattle.c_acts.proofs.Noted.{noted_append}
 
 pub past_added : (p : Past) (s : Stmt) (c j : Place → Bool) (a : Bool) → c ≡ create_added p.created s → j ≡ join_added p.joined s → a ≡ (acts s || p.active)
     → record { created = c; joined = j; active = a } ≡ added p s

@@ -6,12 +6,12 @@ use Rattle.c_tree.specs.declared.program.Mode.{Mode}
 use Rattle.c_tree.specs.Lined.{Program, Function}
 use Rattle.c_rules.specs.Declarations.{Declaration, outer}
 use Rattle.c_names.specs.Tables.{Names, meant}
-use Rattle.c_check.specs.declared.first.Break.{Break}
-use Rattle.c_check.specs.First.{noted_all}
+use Rattle.c_acts.specs.declared.first.Break.{Break}
+use Rattle.c_acts.specs.First.{noted_all}
 use Rattle.c_check.specs.Functions.{functions_breaks}
 use Rattle.c_check.specs.Outer.{all_joined, outer_breaks, part_breaks}
 use Rattle.c_check.specs.Breaks.{none_told, all_breaks}
-use Rattle.c_check.proofs.Noted.{noted_both}
+use Rattle.c_acts.proofs.Noted.{noted_both}
 use Rattle.c_check.proofs.Outers.{same_told}
 
 no_entries : {X : Type 0} (xs : List X) → length xs ≡ 0 → xs ≡ []

@@ -12,9 +12,9 @@ use Rattle.c_rules.specs.Using.{is_miscounted, calls}
 use Rattle.c_rules.specs.Threads.{is_unfixed_create, is_unfixed_join, has_open_argument}
 use Rattle.c_rules.specs.Objects.{is_init, is_beyond}
 use Rattle.c_rules.proofs.Members.{In, in_append_left, in_append_right, in_append_cases, in_flat_map, from_flat_map, From, from}
-use Rattle.c_check.specs.declared.first.Break.{Break}
-use Rattle.c_check.specs.First.{break, break_if}
-use Rattle.c_check.specs.Acts.{is_source}
+use Rattle.c_acts.specs.declared.first.Break.{Break}
+use Rattle.c_acts.specs.First.{break, break_if}
+use Rattle.c_acts.specs.Acts.{is_source}
 use Rattle.c_check.specs.Functions.{parameter_breaks, none_inside, function_breaks, functions_breaks}
 use Rattle.c_check.specs.Outer.{outer_breaks, part_breaks, all_joined}
 use Rattle.c_check.specs.Breaks.{none_told, all_breaks}

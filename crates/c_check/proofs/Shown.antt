@@ -1,25 +1,16 @@
--- Declared expressions and statements, as the definitions see them.
+-- Declared statements, as the definitions see them.
 use Rattle.std.proofs.Common.{◌≡◌, ℕ, List, sym, ◌∙◌, ap}
-use Rattle.c_tree.specs.declared.expr.Op.{Op}
 use Rattle.c_tree.specs.declared.expr.Expr as declared
 use Rattle.c_tree.specs.declared.expr.Place as declared_place
-use Rattle.c_tree.specs.declared.expr.Expr.TheVariants as v
-use Rattle.c_tree.specs.declared.expr.Expr.TheOpen as open_of
-use Rattle.c_tree.specs.declared.expr.Expr.TheFolds.{fold-roll-Expr}
 use Rattle.std.specs.declared.option.Option.{Option}
 use Rattle.c_tree.specs.declared.stmt.Stmt as declared_stmt
 use Rattle.c_tree.specs.declared.stmt.Act.{fold-Act}
 use Rattle.c_tree.specs.declared.stmt.Act.TheVariants as act
 use Rattle.c_tree.specs.declared.stmt.Act.TheOpen as act_open
 use Rattle.c_tree.specs.declared.stmt.Act.TheFolds.{fold-roll-Act, fold_out-Stmt}
-use Rattle.c_tree.specs.Expressions.{Expr, Binary, layer, expr_of, value_of, place_of}
+use Rattle.c_tree.specs.Expressions.{expr_of, value_of, place_of}
 use Rattle.c_tree.specs.Lined as lined
 use Rattle.c_tree.specs.Lined.{Declare, If, While, For, Create, Join, act_layer, stmt_layer, stmt_of, stmts_of}
-
-pub binary_of : (op : Op) (left right : declared.Expr) → expr_of (v.Binary op left right) ≡ Binary op (expr_of left) (expr_of right)
-binary_of op left right = ap expr_of (sym (v.rolls-Binary op left right)) ∙ fold-roll-Expr Expr layer (open_of.Binary op left right)
-
--- ---- statements
 
 pub declare_of : (given : declared_stmt.Stmt) (name : List ℕ) (value : Option declared.Expr) → given.act ≡ act.Declare name value → stmt_of given ≡ Declare given.line name (value_of value)
 declare_of given name value is =

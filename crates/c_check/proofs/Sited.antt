@@ -11,12 +11,12 @@ use Rattle.c_rules.specs.Sites.{Site, Standing, declared, inside, own_site, inne
 use Rattle.c_rules.specs.Threads.{is_fixed_index, thread_len, creates_in, joins_in, is_unfixed_create, is_unfixed_join}
 use Rattle.c_rules.specs.Meaning.{meaning}
 use Rattle.c_rules.specs.Objects.{has_active}
-use Rattle.c_check.specs.declared.first.Break.{Break}
-use Rattle.c_check.specs.Uses.{Around}
+use Rattle.c_acts.specs.declared.first.Break.{Break}
+use Rattle.c_acts.specs.Uses.{Around}
 use Rattle.c_check.specs.Walk.{with_names}
 use Rattle.c_check.specs.Own.{Past, create_added, join_added, added, is_unfixed, is_late, own_breaks}
 use Rattle.c_check.specs.Functions.{parameter_breaks, none_inside, function_breaks, around_of}
-use Rattle.c_check.proofs.Noted.{flat_append}
+use Rattle.c_acts.proofs.Noted.{flat_append}
 use Rattle.c_check.proofs.Walks.{same_tests}
 use Rattle.c_check.proofs.Nodes.{node, nested, scope_more, stmt_eq, acts_eq}
 

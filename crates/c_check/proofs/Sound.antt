@@ -10,9 +10,9 @@ use Rattle.c_rules.specs.Declarations.{Declaration, outer, named, declaration_of
 use Rattle.c_rules.specs.Sites.{Site, sites, sites_in}
 use Rattle.c_rules.specs.Naming.{Inner, inner, inner_pairs, local_in, parameters, parameters_from, monitor_lines, is_taken_for, outer_pairs}
 use Rattle.c_rules.proofs.Members.{In, in_append_left, in_append_right, in_append_cases, in_map, in_flat_map, from_flat_map, From, from}
-use Rattle.c_check.specs.declared.first.Break.{Break}
-use Rattle.c_check.specs.First.{break_if}
-use Rattle.c_check.specs.Acts.{outer_clash}
+use Rattle.c_acts.specs.declared.first.Break.{Break}
+use Rattle.c_acts.specs.First.{break_if}
+use Rattle.c_acts.specs.Acts.{outer_clash}
 use Rattle.c_check.specs.Functions.{parameter_breaks, none_inside, function_breaks, functions_breaks}
 use Rattle.c_check.specs.Outer.{outer_breaks, part_breaks, all_joined}
 use Rattle.c_check.specs.Breaks.{none_told, all_breaks}

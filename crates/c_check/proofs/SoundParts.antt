@@ -17,9 +17,9 @@ use Rattle.c_rules.specs.Using.{has_too_many_values, has_other_initialisers, cap
 use Rattle.c_rules.specs.Objects.{has_no_member, has_no_object, has_no_slot, empty_capacity_lines, is_beyond}
 use Rattle.c_rules.specs.Formed.{broken_lines}
 use Rattle.c_rules.proofs.Members.{In, in_append_left, in_append_right, in_append_cases, from_flat_map, From, from}
-use Rattle.c_check.specs.declared.first.Break.{Break}
-use Rattle.c_check.specs.First.{break_if}
-use Rattle.c_check.specs.Acts.{is_source}
+use Rattle.c_acts.specs.declared.first.Break.{Break}
+use Rattle.c_acts.specs.First.{break_if}
+use Rattle.c_acts.specs.Acts.{is_source}
 use Rattle.c_check.specs.Outer.{array_breaks, object_breaks, slot_breaks, length_breaks, capacity_breaks, part_breaks}
 use Rattle.c_check.proofs.Where.{from_if, in_lines}
 use Rattle.c_check.proofs.SoundSites.{Broken, broken_so}

@@ -18,10 +18,10 @@ use Rattle.c_rules.specs.Threads.{is_unfixed_create, is_unfixed_join, has_open_a
 use Rattle.c_rules.specs.Objects.{is_init, is_beyond, has_no_member, has_no_object, has_no_slot, empty_capacity_lines}
 use Rattle.c_rules.specs.Formed.{broken_lines}
 use Rattle.c_rules.proofs.Members.{In, in_append_right, in_append_cases, from_flat_map, From, from, any_of}
-use Rattle.c_check.specs.declared.first.Break.{Break}
-use Rattle.c_check.specs.First.{break, break_if}
-use Rattle.c_check.specs.Uses.{use_breaks}
-use Rattle.c_check.specs.Acts.{is_source}
+use Rattle.c_acts.specs.declared.first.Break.{Break}
+use Rattle.c_acts.specs.First.{break, break_if}
+use Rattle.c_acts.specs.Uses.{use_breaks}
+use Rattle.c_acts.specs.Acts.{is_source}
 use Rattle.c_check.proofs.Where.{from_if, in_where}
 use Rattle.c_check.proofs.Sited.{around_at, late_at}
 use Rattle.c_check.proofs.Uniform.{act_rules, use_rules}

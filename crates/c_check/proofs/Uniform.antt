@@ -13,10 +13,10 @@ use Rattle.c_rules.specs.Naming.{Inner, local_in, calls_monitor}
 use Rattle.c_rules.specs.Using.{is_miscounted, calls}
 use Rattle.c_rules.specs.Threads.{is_unfixed_create, is_unfixed_join, has_open_argument}
 use Rattle.c_rules.specs.Objects.{is_init, is_beyond}
-use Rattle.c_check.specs.declared.first.Break.{Break}
-use Rattle.c_check.specs.First.{break_if}
-use Rattle.c_check.specs.Uses.{uses_breaks}
-use Rattle.c_check.specs.Acts.{outer_clash, is_source}
+use Rattle.c_acts.specs.declared.first.Break.{Break}
+use Rattle.c_acts.specs.First.{break_if}
+use Rattle.c_acts.specs.Uses.{uses_breaks}
+use Rattle.c_acts.specs.Acts.{outer_clash, is_source}
 use Rattle.c_check.proofs.Nodes.{scope_more}
 use Rattle.c_check.proofs.Sited.{around_at, late_at, site_breaks}
 

@@ -11,12 +11,12 @@ use Rattle.c_tree.specs.Lined.{Stmt, Stmts, Declare, If, While, For, stmt_of, st
 use Rattle.c_rules.specs.Names.{mentions}
 use Rattle.c_rules.specs.Sites.{declared, locals_of}
 use Rattle.c_rules.specs.Uses.{of_expr, of_value}
-use Rattle.c_check.specs.declared.first.Break.{Break}
-use Rattle.c_check.specs.First.{noted_all}
-use Rattle.c_check.specs.Uses.{Around, uses_breaks}
-use Rattle.c_check.specs.Acts.{local_breaks, declare_breaks, entered}
-use Rattle.c_check.specs.Walk.{with_names, stmt_breaks, list_breaks}
-use Rattle.c_check.proofs.Noted.{noted_append, noted_both}
+use Rattle.c_acts.specs.declared.first.Break.{Break}
+use Rattle.c_acts.specs.First.{noted_all}
+use Rattle.c_acts.specs.Uses.{Around, uses_breaks}
+use Rattle.c_acts.specs.Acts.{local_breaks, declare_breaks, entered}
+use Rattle.c_check.specs.Walk.{with_names, stmt_breaks, list_breaks, nest_breaks}
+use Rattle.c_acts.proofs.Noted.{noted_append, noted_both}
 
 abbrev pub Names : Type 0
 Names = List ℕ → Bool
@@ -33,26 +33,26 @@ module _ (a : Around) where
       → g ≡ noted_all f (declare_breaks a inside line name value) → g ≡ noted_all f (stmt_breaks a inside u late s)
   declare_stmt inside u late f g s line name value is p = p ∙ ap (λ x. noted_all f (stmt_breaks a inside u late x)) (sym is)
 
-  pub if_stmt : (inside in1 in2 : Names) (u late : Bool) (f g h k : Option Break) (s : Stmt) (line : ℕ) (test : Expr) (x y : Stmts) → s ≡ If line test x y
+  pub if_stmt : (inside in1 in2 : Names) (late : Bool) (f g h k : Option Break) (s : Stmt) (line : ℕ) (test : Expr) (x y : Stmts) → s ≡ If line test x y
       → in1 ≡ inside → in2 ≡ inside → g ≡ noted_all f (list_breaks a inside late x) → h ≡ noted_all g (list_breaks a in1 late y) → k ≡ noted_all h (uses_breaks a in2 line (of_expr test))
-      → k ≡ noted_all f (stmt_breaks a inside u late s)
-  if_stmt inside in1 in2 u late f g h k s line test x y is i1 i2 p q r =
+      → k ≡ noted_all f (nest_breaks a inside late s)
+  if_stmt inside in1 in2 late f g h k s line test x y is i1 i2 p q r =
       noted_both f g k (list_breaks a inside late x) (list_breaks a inside late y ++ uses_breaks a inside line (of_expr test)) p
       (noted_both g h k (list_breaks a inside late y) (uses_breaks a inside line (of_expr test))
       (q ∙ ap (λ i. noted_all g (list_breaks a i late y)) i1) (r ∙ ap (λ i. noted_all h (uses_breaks a i line (of_expr test))) i2))
-      ∙ ap (λ z. noted_all f (stmt_breaks a inside u late z)) (sym is)
+      ∙ ap (λ z. noted_all f (nest_breaks a inside late z)) (sym is)
 
-  pub while_stmt : (inside in1 : Names) (u late : Bool) (f g k : Option Break) (s : Stmt) (line : ℕ) (test : Expr) (x : Stmts) → s ≡ While line test x
-      → in1 ≡ inside → g ≡ noted_all f (list_breaks a inside late x) → k ≡ noted_all g (uses_breaks a in1 line (of_expr test)) → k ≡ noted_all f (stmt_breaks a inside u late s)
-  while_stmt inside in1 u late f g k s line test x is i1 p r =
+  pub while_stmt : (inside in1 : Names) (late : Bool) (f g k : Option Break) (s : Stmt) (line : ℕ) (test : Expr) (x : Stmts) → s ≡ While line test x
+      → in1 ≡ inside → g ≡ noted_all f (list_breaks a inside late x) → k ≡ noted_all g (uses_breaks a in1 line (of_expr test)) → k ≡ noted_all f (nest_breaks a inside late s)
+  while_stmt inside in1 late f g k s line test x is i1 p r =
       noted_both f g k (list_breaks a inside late x) (uses_breaks a inside line (of_expr test)) p (r ∙ ap (λ i. noted_all g (uses_breaks a i line (of_expr test))) i1)
-      ∙ ap (λ z. noted_all f (stmt_breaks a inside u late z)) (sym is)
+      ∙ ap (λ z. noted_all f (nest_breaks a inside late z)) (sym is)
 
-  pub for_stmt : (inside in1 in2 in3 : Names) (u late : Bool) (f g h j k : Option Break) (s : Stmt) (line : ℕ) (part : Stmts) (test : Expr) (step body : Stmts) → s ≡ For line part test step body
+  pub for_stmt : (inside in1 in2 in3 : Names) (late : Bool) (f g h j k : Option Break) (s : Stmt) (line : ℕ) (part : Stmts) (test : Expr) (step body : Stmts) → s ≡ For line part test step body
       → in1 ≡ with_names (locals_of part) inside → in2 ≡ in1 → in3 ≡ in2
       → g ≡ noted_all f (list_breaks a inside late part) → h ≡ noted_all g (list_breaks a in1 late step) → j ≡ noted_all h (list_breaks a in2 late body)
-      → k ≡ noted_all j (uses_breaks a in3 line (of_expr test)) → k ≡ noted_all f (stmt_breaks a inside u late s)
-  for_stmt inside in1 in2 in3 u late f g h j k s line part test step body is i1 i2 i3 p q r t =
+      → k ≡ noted_all j (uses_breaks a in3 line (of_expr test)) → k ≡ noted_all f (nest_breaks a inside late s)
+  for_stmt inside in1 in2 in3 late f g h j k s line part test step body is i1 i2 i3 p q r t =
       let all : Names = with_names (locals_of part) inside in
       noted_both f g k (list_breaks a inside late part) (list_breaks a all late step ++ (list_breaks a all late body ++ uses_breaks a all line (of_expr test))) p
       (noted_both g h k (list_breaks a all late step) (list_breaks a all late body ++ uses_breaks a all line (of_expr test))
@@ -60,7 +60,7 @@ module _ (a : Around) where
       (noted_both h j k (list_breaks a all late body) (uses_breaks a all line (of_expr test))
       (r ∙ ap (λ i. noted_all h (list_breaks a i late body)) (i2 ∙ i1))
       (t ∙ ap (λ i. noted_all j (uses_breaks a i line (of_expr test))) (i3 ∙ i2 ∙ i1))))
-      ∙ ap (λ z. noted_all f (stmt_breaks a inside u late z)) (sym is)
+      ∙ ap (λ z. noted_all f (nest_breaks a inside late z)) (sym is)
 
 -- ---- scopes
 

@@ -5,8 +5,8 @@ use Rattle.c_tree.specs.Lined.{Program, line_of}
 use Rattle.c_rules.specs.declared.rule.Rule.{Rule}
 use Rattle.c_rules.specs.Sites.{Site, sites, lines_where}
 use Rattle.c_rules.proofs.Members.{In, in_map, in_filter, from_map, from_filter, Image, image}
-use Rattle.c_check.specs.declared.first.Break.{Break}
-use Rattle.c_check.specs.First.{break, break_if}
+use Rattle.c_acts.specs.declared.first.Break.{Break}
+use Rattle.c_acts.specs.First.{break, break_if}
 
 pub in_if : (c : Bool) (r : Rule) (line : ℕ) → c ≡ true → In (break r line) (break_if c r line)
 in_if true r line e = inl refl

@@ -10,14 +10,14 @@ use Rattle.c_tree.specs.Lined.{function_of}
 use Rattle.c_rules.specs.Names.{mentions}
 use Rattle.c_rules.specs.Declarations.{Declaration}
 use Rattle.c_rules.specs.Sites.{is_main}
-use Rattle.c_check.specs.declared.first.Break.{Break}
-use Rattle.c_check.specs.First.{noted_all}
-use Rattle.c_check.specs.Uses.{Around}
-use Rattle.c_check.specs.Acts.{local_breaks, entered}
+use Rattle.c_acts.specs.declared.first.Break.{Break}
+use Rattle.c_acts.specs.First.{noted_all}
+use Rattle.c_acts.specs.Uses.{Around}
+use Rattle.c_acts.specs.Acts.{local_breaks, entered}
 use Rattle.c_check.specs.Walk.{with_names}
 use Rattle.c_check.specs.Own.{nothing_past, own_breaks}
 use Rattle.c_check.specs.Functions.{parameter_breaks, none_inside, function_breaks, around_of, functions_breaks}
-use Rattle.c_check.proofs.Noted.{noted_append, noted_both}
+use Rattle.c_acts.proofs.Noted.{noted_append, noted_both}
 use Rattle.c_check.proofs.Walks.{Names, same_tests, among}
 
 swapped : (a b c : Bool) → ((a || b) || c) ≡ (b || (a || c))

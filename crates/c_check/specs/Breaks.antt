@@ -5,7 +5,7 @@ use Rattle.std.specs.List.{enumerate_from}
 use Rattle.c_tree.specs.declared.program.Mode.{Mode}
 use Rattle.c_tree.specs.Lined.{Program}
 use Rattle.c_rules.specs.Declarations.{Declaration, outer}
-use Rattle.c_check.specs.declared.first.Break.{Break}
+use Rattle.c_acts.specs.declared.first.Break.{Break}
 use Rattle.c_check.specs.Functions.{functions_breaks}
 use Rattle.c_check.specs.Outer.{all_joined, outer_breaks, part_breaks}
 

@@ -6,7 +6,7 @@ use Rattle.c_rules.specs.Formed.{Formed, FirstBreak, KeepsRules}
 use Rattle.c_rules.specs.Counts.{limit, FirstPassed}
 use Rattle.c_check.specs.declared.answer.CheckError.{CheckError}
 use Rattle.c_check.specs.declared.answer.CheckError.TheVariants as error
-use Rattle.c_check.specs.declared.table.Table.{Table}
+use Rattle.c_check.specs.declared.numbers.Table.{Table}
 use Rattle.c_check.specs.Tables.{numbers, numbers_of}
 
 -- the table of a well-formed program has its numbers

@@ -5,9 +5,9 @@ use Rattle.c_tree.specs.declared.program.Mode.{Mode}
 use Rattle.c_tree.specs.Lined.{Function}
 use Rattle.c_rules.specs.Declarations.{Declaration}
 use Rattle.c_rules.specs.Sites.{is_main}
-use Rattle.c_check.specs.declared.first.Break.{Break}
-use Rattle.c_check.specs.Uses.{Around}
-use Rattle.c_check.specs.Acts.{local_breaks, entered}
+use Rattle.c_acts.specs.declared.first.Break.{Break}
+use Rattle.c_acts.specs.Uses.{Around}
+use Rattle.c_acts.specs.Acts.{local_breaks, entered}
 use Rattle.c_check.specs.Walk.{with_names}
 use Rattle.c_check.specs.Own.{nothing_past, own_breaks}
 

@@ -1,6 +1,3 @@
-pub mod First
-pub mod Uses
-pub mod Acts
 pub mod Walk
 pub mod Own
 pub mod Functions
@@ -9,3 +6,4 @@ pub mod Breaks
 pub mod Tables
 pub mod Checked
 pub mod Written
+pub mod Slots

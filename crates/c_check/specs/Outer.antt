@@ -14,9 +14,9 @@ use Rattle.c_rules.specs.Using.{has_too_many_values, has_other_initialisers}
 use Rattle.c_rules.specs.Objects.{has_no_member, has_no_object, has_no_slot}
 use Rattle.c_rules.specs.Sites.{is_main}
 use Rattle.c_names.specs.Tables.{joined}
-use Rattle.c_check.specs.declared.first.Break.{Break}
-use Rattle.c_check.specs.First.{break_if}
-use Rattle.c_check.specs.Acts.{outer_clash, is_source}
+use Rattle.c_acts.specs.declared.first.Break.{Break}
+use Rattle.c_acts.specs.First.{break_if}
+use Rattle.c_acts.specs.Acts.{outer_clash, is_source}
 
 -- ---- names
 

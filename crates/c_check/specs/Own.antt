@@ -1,18 +1,16 @@
 -- What the statements of a function's own list break.
 use Rattle.std.specs.Prelude.{ℕ, Bool, false, not, ◌&&◌, ◌||◌, List, [], ◌++◌}
-use Rattle.std.specs.List.{list_any}
-use denote.Ref.{Bor}
-use Rattle.c_tree.specs.declared.expr.Place as declared_place
-use Rattle.c_tree.specs.Expressions.{Place, place_of}
+use Rattle.c_tree.specs.Expressions.{Place}
 use Rattle.c_tree.specs.Numbering.{same_slot}
 use Rattle.c_tree.specs.Lined.{Stmt, Stmts, Nil, Cons, If, While, For, Create, Join}
 use Rattle.c_rules.specs.Sites.{declared}
 use Rattle.c_rules.specs.Threads.{is_fixed_index, thread_len}
 use Rattle.c_rules.specs.Objects.{is_active}
 use Rattle.c_names.specs.Tables.{meaning_by}
-use Rattle.c_check.specs.declared.first.Break.{Break}
+use Rattle.c_acts.specs.declared.first.Break.{Break}
 use Rattle.c_check.specs.declared.own.Past as declared_past
-use Rattle.c_check.specs.Uses.{Around}
+use Rattle.c_check.specs.Slots.{has_slot}
+use Rattle.c_acts.specs.Uses.{Around}
 use Rattle.c_check.specs.Walk.{with_names, stmt_breaks}
 
 -- ---- statements that may use an object
@@ -74,8 +72,5 @@ own_breaks a main inside past (Cons s rest) =
 
 -- ---- what the code keeps
 
-abbrev pub has_slot : List (Bor declared_place.Place) → Place → Bool
-has_slot slots slot = list_any (λ other. same_slot (place_of other.now) slot) slots
-
 abbrev pub past_of : declared_past.Past → Past
-past_of past = record { created = has_slot past.created.items; joined = has_slot past.joined.items; active = past.active }
+past_of past = record { created = has_slot past.created; joined = has_slot past.joined; active = past.active }

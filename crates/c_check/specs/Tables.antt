@@ -8,8 +8,8 @@ use Rattle.c_tree.specs.Bare as bare
 use Rattle.c_tree.specs.Lined.{Stmts, Nil, Cons, Create}
 use Rattle.c_tree.specs.Numbering.{Creation, creations, main_name, mutex_count, thread_count}
 use Rattle.c_tree.specs.Numbering as numbering
-use Rattle.c_check.specs.declared.table.Table as declared_table
-use Rattle.c_check.specs.declared.table.Start.{Start}
+use Rattle.c_check.specs.declared.numbers.Table as declared_table
+use Rattle.c_check.specs.declared.numbers.Start.{Start}
 use Rattle.c_check.specs.declared.mutex.Mutex.{Mutex}
 
 -- how many statements of a list create threads

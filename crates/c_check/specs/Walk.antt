@@ -4,9 +4,9 @@ use Rattle.c_tree.specs.Lined.{Stmt, Stmts, Nil, Cons, Declare, If, While, For}
 use Rattle.c_rules.specs.Names.{mentions}
 use Rattle.c_rules.specs.Sites.{declared, locals_of}
 use Rattle.c_rules.specs.Uses.{of_expr}
-use Rattle.c_check.specs.declared.first.Break.{Break}
-use Rattle.c_check.specs.Uses.{Around, uses_breaks}
-use Rattle.c_check.specs.Acts.{declare_breaks, act_breaks}
+use Rattle.c_acts.specs.declared.first.Break.{Break}
+use Rattle.c_acts.specs.Uses.{Around, uses_breaks}
+use Rattle.c_acts.specs.Acts.{declare_breaks, act_breaks}
 
 -- names come into scope
 abbrev pub with_names : List (List ℕ) → (List ℕ → Bool) → List ℕ → Bool
@@ -30,3 +30,10 @@ abbrev mutual
   pub list_breaks : Around → (List ℕ → Bool) → (late : Bool) → Stmts → List Break
   list_breaks a inside late Nil = []
   list_breaks a inside late (Cons s rest) = stmt_breaks a inside true late s ++ list_breaks a (with_names (declared s) inside) late rest
+
+-- what an `if`, a `while` or a `for` breaks, behind what it holds; nothing of the others
+abbrev pub nest_breaks : Around → (List ℕ → Bool) → (late : Bool) → Stmt → List Break
+nest_breaks a inside late (If line test then_arm else_arm) = stmt_breaks a inside true late (If line test then_arm else_arm)
+nest_breaks a inside late (While line test body) = stmt_breaks a inside true late (While line test body)
+nest_breaks a inside late (For line first_part test step body) = stmt_breaks a inside true late (For line first_part test step body)
+nest_breaks a inside late s = []

@@ -7,7 +7,7 @@ ghost use Rattle.c_check.specs.Checked as spec;
 
 use crate::breaks::first_break;
 use crate::counts::{first_passed, limit};
-use crate::table::Table;
+use crate::numbers::Table;
 use c_rules::{Count, Rule};
 use c_tree::{Mode, Program};
 use std::alloc::Global;

@@ -3,12 +3,12 @@
 ghost use Rattle.std.specs.Prelude.{◌≡◌, ◌<◌, length, None, IfOk, MatchOption};
 ghost use Rattle.c_tree.specs.Lined.{program_of};
 ghost use Rattle.c_rules.specs.Formed.{KeepsRules, FirstBreak};
-ghost use Rattle.c_check.specs.First.{noted_all};
+ghost use Rattle.c_acts.specs.First.{noted_all};
 ghost use Rattle.c_check.specs.Breaks as spec;
 
-use crate::first::Break;
 use crate::functions::check_functions;
 use crate::outer::{check_declarations, check_parts};
+use c_acts::Break;
 use c_names::declarations;
 use c_tree::{Mode, Program};
 use indexmap::IndexMap;

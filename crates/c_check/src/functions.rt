@@ -5,15 +5,13 @@ ghost use Rattle.std.specs.List.{enumerate_from};
 ghost use Rattle.c_tree.specs.Lined.{function_of};
 ghost use Rattle.c_rules.specs.Sites as sites;
 ghost use Rattle.c_names.specs.Tables.{in_scope, meant};
-ghost use Rattle.c_check.specs.First.{noted_all};
-ghost use Rattle.c_check.specs.Uses.{around};
+ghost use Rattle.c_acts.specs.First.{noted_all};
+ghost use Rattle.c_acts.specs.Uses.{around};
 ghost use Rattle.c_check.specs.Walk.{with_names};
 ghost use Rattle.c_check.specs.Functions as spec;
 
-use crate::acts::check_local;
-use crate::first::Break;
 use crate::own::check_own;
-use crate::uses::Inside;
+use c_acts::{Break, Inside, check_local};
 use c_names::{Names, Scope, enter};
 use c_tree::{Function, Mode, Name};
 use indexmap::IndexSet;

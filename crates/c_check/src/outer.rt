@@ -7,11 +7,11 @@ ghost use Rattle.c_rules.specs.Naming as naming;
 ghost use Rattle.c_rules.specs.Sites as sites;
 ghost use Rattle.c_names.specs.Shown.{thing_of, shown, all_shown};
 ghost use Rattle.c_names.specs.Tables.{meant};
-ghost use Rattle.c_check.specs.First.{noted_all};
+ghost use Rattle.c_acts.specs.First.{noted_all};
 ghost use Rattle.c_check.specs.Outer as spec;
 
-use crate::first::{Break, note, note_if};
 use crate::functions::is_main;
+use c_acts::{Break, note, note_if};
 use c_names::{Declaration, Names, Thing, declaration_of, declare, is_function_name, is_reserved};
 use c_rules::Rule;
 use c_tree::{Array, Function, Mode, Object, Program, Slot};

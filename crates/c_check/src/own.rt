@@ -2,21 +2,22 @@
 
 ghost use Rattle.std.specs.Prelude.{◌≡◌, ◌||◌, List, map, option_map, length, OnOk, IfOk};
 ghost use Rattle.std.specs.List.{list_any};
-ghost use Rattle.c_tree.specs.Numbering as numbering;
 ghost use Rattle.c_tree.specs.Expressions.{place_of, value_of};
 ghost use Rattle.c_tree.specs.Lined.{stmt_of, stmts_of};
 ghost use Rattle.c_rules.specs.Threads as threads;
 ghost use Rattle.c_names.specs.Shown.{thing_of};
 ghost use Rattle.c_names.specs.Tables.{in_scope};
-ghost use Rattle.c_check.specs.First.{noted_all};
-ghost use Rattle.c_check.specs.Uses.{around};
+ghost use Rattle.c_acts.specs.First.{noted_all};
+ghost use Rattle.c_acts.specs.Uses.{around};
+ghost use Rattle.c_check.specs.Slots.{has_slot};
 ghost use Rattle.c_check.specs.Own as spec;
 
-use crate::first::Break;
-use crate::uses::Inside;
+use crate::slots::{Slots, add_slot, has_slot};
 use crate::walk::check_stmt;
-use c_names::{Scope, Thing, constant, meaning, number_of};
+use c_acts::{Break, Inside};
+use c_names::{Scope, Thing, meaning, number_of};
 use c_tree::{Act, Expr, Place, Stmt};
+use indexmap::IndexSet;
 use std::alloc::{AllocError, Global};
 
 fn either(a: bool, b: bool) -> bool
@@ -84,27 +85,6 @@ fn list_acts(ss: &[Stmt]) -> bool
     false
 }
 
-/// Whether two indices of threads are the same constant, or both absent.
-fn same_index(a: &Option<Expr>, b: &Option<Expr>) -> bool
-    ensures { result ≡ numbering.same_index (value_of a.now) (value_of b.now) }
-{
-    match (a, b) {
-        (None, None) => true,
-        (Some(i), Some(j)) => match (constant(i), constant(j)) {
-            (Some(x), Some(y)) => x == y,
-            _ => false,
-        },
-        _ => false,
-    }
-}
-
-/// Whether two slots are the same.
-fn same_slot(a: &Place, b: &Place) -> bool
-    ensures { result ≡ numbering.same_slot (place_of a.now) (place_of b.now) }
-{
-    a.name.as_slice() == b.name.as_slice() && same_index(&a.index, &b.index)
-}
-
 /// The declared length of an array of threads; 0 for what is none.
 fn thread_len(thing: &Option<Thing>) -> u32
     ensures { result ≡ threads.thread_len (option_map thing_of thing.now) }
@@ -136,20 +116,13 @@ fn is_fixed_slot(at: &Inside, scope: &Scope, main: bool, slot: &Place) -> bool
     main && is_fixed_index(thread_len(&thing), &slot.index)
 }
 
-/// Whether a slot is among these.
-fn has_slot(slots: &[&Place], slot: &Place) -> bool
-    ensures { result ≡ spec.has_slot slots.now (place_of slot.now) }
-{
-    slots.iter().any(|other| same_slot(other, slot))
-}
-
 /// What the statements of main's own list did so far.
 #[derive(Drop)]
 pub struct Past<'p> {
     /// The slots of the creates.
-    created: Vec<&'p Place>,
+    created: Slots<'p>,
     /// The slots of the joins.
-    joined: Vec<&'p Place>,
+    joined: Slots<'p>,
     /// Whether some of them may use an object.
     active: bool,
 }
@@ -189,21 +162,21 @@ fn is_unfixed(at: &Inside, scope: &Scope, main: bool, past: &Past, s: &Stmt) -> 
 }
 
 /// Keeps the slot of a create. The one error is want of memory.
-fn add_created<'p>(created: &mut Vec<&'p Place>, s: &'p Stmt) -> Result<(), AllocError>
-    ensures { OnOk result (spec.has_slot created.new.items ≡ spec.create_added (spec.has_slot created.old.items) (stmt_of s.now)) }
+fn add_created<'p>(created: &mut Slots<'p>, s: &'p Stmt) -> Result<(), AllocError>
+    ensures { OnOk result (has_slot created.new ≡ spec.create_added (has_slot created.old) (stmt_of s.now)) }
 {
     if let Act::Create { slot, .. } = &s.act {
-        created.push(slot)?;
+        add_slot(created, slot)?;
     }
     Ok(())
 }
 
 /// Keeps the slot of a join. The one error is want of memory.
-fn add_joined<'p>(joined: &mut Vec<&'p Place>, s: &'p Stmt) -> Result<(), AllocError>
-    ensures { OnOk result (spec.has_slot joined.new.items ≡ spec.join_added (spec.has_slot joined.old.items) (stmt_of s.now)) }
+fn add_joined<'p>(joined: &mut Slots<'p>, s: &'p Stmt) -> Result<(), AllocError>
+    ensures { OnOk result (has_slot joined.new ≡ spec.join_added (has_slot joined.old) (stmt_of s.now)) }
 {
     if let Act::Join { slot } = &s.act {
-        joined.push(slot)?;
+        add_slot(joined, slot)?;
     }
     Ok(())
 }
@@ -214,8 +187,8 @@ impl<'p> Past<'p> {
         ensures { spec.past_of result ≡ spec.nothing_past }
     {
         Past {
-            created: Vec::new(alloc),
-            joined: Vec::new(alloc),
+            created: IndexSet::new(alloc),
+            joined: IndexSet::new(alloc),
             active: false,
         }
     }

@@ -11,28 +11,10 @@ ghost use Rattle.c_check.specs.Tables as spec;
 
 use crate::counts::find_main;
 use crate::mutex::Mutex;
+use crate::numbers::{Start, Table};
 use c_names::constant;
 use c_tree::{Act, Expr, Object, Program, Stmt, copy_name};
 use std::alloc::{AllocError, Global};
-
-/// What a thread begins with.
-#[derive(Clone, Copy, Debug)]
-struct Start {
-    /// The place of its function, counted from 0.
-    pub function: u32,
-    /// Its argument.
-    pub arg: i32,
-}
-
-/// The numbers of a well-formed program.
-#[derive(Debug, Drop)]
-pub struct Table {
-    thread_count: u32,
-    starts: Vec<Start>,
-    pub(crate) mutexes: Vec<Mutex>,
-    pub(crate) mutex_count: u32,
-    monitors: u32,
-}
 
 /// The value of an argument, where it has one that fits its type.
 fn argument(e: &Expr) -> i32

@@ -5,14 +5,12 @@ ghost use Rattle.c_tree.specs.Expressions.{expr_of, value_of};
 ghost use Rattle.c_tree.specs.Lined.{stmt_of, stmts_of};
 ghost use Rattle.c_rules.specs.Sites.{declared, locals_of};
 ghost use Rattle.c_names.specs.Tables.{in_scope};
-ghost use Rattle.c_check.specs.First.{noted_all};
-ghost use Rattle.c_check.specs.Uses.{around};
-ghost use Rattle.c_check.specs.Acts as acts;
+ghost use Rattle.c_acts.specs.First.{noted_all};
+ghost use Rattle.c_acts.specs.Uses.{around};
+ghost use Rattle.c_acts.specs.Acts as acts;
 ghost use Rattle.c_check.specs.Walk as spec;
 
-use crate::acts::{check_act, check_local};
-use crate::first::Break;
-use crate::uses::{Inside, check_expr, check_value};
+use c_acts::{Break, Inside, check_act, check_expr, check_local, check_value};
 use c_names::{Scope, enter};
 use c_tree::{Act, Expr, Stmt};
 use std::alloc::AllocError;
@@ -52,39 +50,13 @@ pub fn check_stmt<'p>(
     ensures scoped { OnOk result (in_scope scope.new ≡ spec.with_names (declared (stmt_of s.now)) (in_scope scope.old)) }
     ensures behind { OnOk result (take (length scope.old.keys) scope.new.keys ≡ scope.old.keys) }
 {
-    let line = s.line;
     match &s.act {
         Act::Declare { name, value } => {
-            check_declare(at, scope, first, line, name.as_slice(), value)?;
+            check_declare(at, scope, first, s.line, name.as_slice(), value)?;
             Ok(())
         }
-        Act::If {
-            test,
-            then_arm,
-            else_arm,
-        } => {
-            check_list(at, scope, first, then_arm.as_slice(), late)?;
-            check_list(at, scope, first, else_arm.as_slice(), late)?;
-            check_expr(at, scope, first, line, test);
-            Ok(())
-        }
-        Act::While { test, body } => {
-            check_list(at, scope, first, body.as_slice(), late)?;
-            check_expr(at, scope, first, line, test);
-            Ok(())
-        }
-        Act::For {
-            first: part,
-            test,
-            step,
-            body,
-        } => {
-            let outer = scope.len();
-            check_open(at, scope, first, part.as_slice(), late)?;
-            check_list(at, scope, first, step.as_slice(), late)?;
-            check_list(at, scope, first, body.as_slice(), late)?;
-            check_expr(at, scope, first, line, test);
-            scope.truncate(outer);
+        Act::If { .. } | Act::While { .. } | Act::For { .. } => {
+            check_nest(at, scope, first, s, late)?;
             Ok(())
         }
         Act::Assign { .. }
@@ -106,6 +78,53 @@ pub fn check_stmt<'p>(
             check_act(at, scope, first, s, unfixed, late);
             Ok(())
         }
+    }
+}
+
+/// Looks at an `if`, a `while` or a `for` with what it holds, and passes over other statements. The
+/// one error is want of memory.
+#[cycle(walk)]
+fn check_nest<'p>(
+    at: &Inside<'_, 'p>,
+    scope: &mut Scope<'p>,
+    first: &mut Option<Break>,
+    s: &'p Stmt,
+    late: bool,
+) -> Result<(), AllocError>
+    ensures breaks { OnOk result (first.new ≡ noted_all first.old (spec.nest_breaks (around at.now) (in_scope scope.old) late (stmt_of s.now))) }
+    ensures scoped { OnOk result (scope.new.keys ≡ scope.old.keys) }
+{
+    match &s.act {
+        Act::If {
+            test,
+            then_arm,
+            else_arm,
+        } => {
+            check_list(at, scope, first, then_arm.as_slice(), late)?;
+            check_list(at, scope, first, else_arm.as_slice(), late)?;
+            check_expr(at, scope, first, s.line, test);
+            Ok(())
+        }
+        Act::While { test, body } => {
+            check_list(at, scope, first, body.as_slice(), late)?;
+            check_expr(at, scope, first, s.line, test);
+            Ok(())
+        }
+        Act::For {
+            first: part,
+            test,
+            step,
+            body,
+        } => {
+            let outer = scope.len();
+            check_open(at, scope, first, part.as_slice(), late)?;
+            check_list(at, scope, first, step.as_slice(), late)?;
+            check_list(at, scope, first, body.as_slice(), late)?;
+            check_expr(at, scope, first, s.line, test);
+            scope.truncate(outer);
+            Ok(())
+        }
+        _ => Ok(()),
     }
 }
 

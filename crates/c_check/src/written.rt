@@ -6,7 +6,7 @@ ghost use Rattle.c_check.specs.Tables as spec;
 ghost use Rattle.c_check.specs.Written as written;
 
 use crate::mutex::Mutex;
-use crate::table::Table;
+use crate::numbers::Table;
 use c_tree::Name;
 use sqlite_items::Items;
 use std::alloc::{AllocError, Global};

@@ -5,3 +5,5 @@ pub mod KeptActs
 pub mod KeptRuns
 pub mod NotStuck
 pub mod Unions
+pub mod Masks
+pub mod Closing

@@ -10,7 +10,10 @@ pub mod Locks
 pub mod Waits
 pub mod Step
 pub mod Run
+pub mod Numbers
+pub mod Shown
 pub mod Stuck
+pub mod Closed
 pub mod Samples
 pub mod Waking
 pub mod Calling

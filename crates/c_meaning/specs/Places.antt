@@ -10,19 +10,20 @@ use Rattle.c_tree.specs.Numbering.{mutex_of, condition_of, scalar_cell, element_
 use Rattle.c_meaning.specs.State.{Locals, State}
 
 -- a scalar is a cell, or else a local; each name has one meaning
-abbrev pub scalar_value : State → Option ℤ → Option ℕ → Option ℤ
-scalar_value s local (Some cell) = slice_get s.cells cell
-scalar_value s local None = local
+abbrev pub scalar_value : List ℤ → Option ℤ → Option ℕ → Option ℤ
+scalar_value cells local (Some cell) = slice_get cells cell
+scalar_value cells local None = local
 
-abbrev pub values_in : Program → State → Locals → Values
-values_in p s locals = record {
-  scalar = λ name. scalar_value s (finite.get locals name) (scalar_cell p name);
-  element = λ name index. option_and_then (slice_get s.cells) (element_cell p name index);
+-- what names stand for, where the cells and the locals have these values
+abbrev pub values_of : Program → List ℤ → Locals → Values
+values_of p cells locals = record {
+  scalar = λ name. scalar_value cells (finite.get locals name) (scalar_cell p name);
+  element = λ name index. option_and_then (slice_get cells) (element_cell p name index);
 }
 
 -- the value of an expression, and none where it is undefined
 abbrev pub evaluated : Program → State → Locals → Expr → Option ℤ
-evaluated p s locals e = value (values_in p s locals) e
+evaluated p s locals e = value (values_of p s.cells locals) e
 
 -- the value of an expression that may be left out, and none where it is undefined
 abbrev pub evaluated_if_any : Program → State → Locals → Option Expr → Option (Option ℤ)

@@ -3,6 +3,8 @@ use Rattle.std.specs.Prelude.{ℕ, ℤ, ◌==◌, if◌then◌else◌, List, [],
 use Rattle.std.specs.declared.option.Option.{Option}
 use Rattle.std.specs.Fmt.{signed_decimal}
 use Rattle.c_meaning.specs.declared.Did.TheVariants as did
+use Rattle.c_meaning.specs.declared.printing.Piece.{Piece}
+use Rattle.c_meaning.specs.declared.printing.Piece.TheVariants.{Argument, Pair, Byte}
 use Rattle.c_meaning.specs.State.{Frame, State, goes_on}
 use Rattle.c_meaning.specs.Outcome.{Outcome, Undefined, Done}
 
@@ -26,6 +28,12 @@ formatted (b ∷ []) values = b ∷ []
 formatted (b ∷ c ∷ format) values =
     if b == 37 then directive c values (formatted format)
     else (if b == 92 then escaped c ∷ formatted format values else b ∷ formatted (c ∷ format) values)
+
+-- what two bytes and the format behind them give, by what they begin with
+abbrev pub given_by : Piece → ℕ → ℕ → List ℕ → List ℤ → List ℕ
+given_by Argument b c format values = argument_then values (formatted format)
+given_by Pair b c format values = (if b == 92 then escaped c else c) ∷ formatted format values
+given_by Byte b c format values = b ∷ formatted (c ∷ format) values
 
 -- Print: appends the bytes of the format
 abbrev pub printed : State → ℕ → List Frame → List ℕ → Option (List ℤ) → Outcome

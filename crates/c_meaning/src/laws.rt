@@ -1,5 +1,5 @@
 // What holds of all states and events.
-ghost use Rattle.c_meaning.specs.Laws.{EachEventIsDecided, EachEventLeadsToOne, EndsWithMain, BlockedForOne, StuckSetsUnite};
+ghost use Rattle.c_meaning.specs.Laws.{EachEventIsDecided, EachEventLeadsToOne, EndsWithMain, BlockedForOne, BlockedIsComputed, StuckIsClosed, StuckSetsUnite};
 
 /// An event isn't enabled, or is undefined, or leads to a state, which is the only one and does
 /// one thing; and nothing is enabled after main has ended.
@@ -13,4 +13,11 @@ pub fn a_step_is_one_of_three()
 pub fn stuck_sets_unite()
     ensures blocked { BlockedForOne }
     ensures union { StuckSetsUnite }
+{}
+
+/// What a thread is blocked for is computed from its state, and a set is stuck exactly where it has
+/// a thread and is closed.
+pub fn stuck_sets_are_closed()
+    ensures computed { BlockedIsComputed }
+    ensures closed { StuckIsClosed }
 {}

@@ -7,13 +7,19 @@ ghost use Rattle.c_tree.specs.Lined.{bare_program};
 ghost use Rattle.c_tree.specs.FirstForm.{is_first_form, first_nested};
 ghost use Rattle.c_meaning.specs.Stuck.{NeverStuck};
 
+mod closed;
 mod laws;
+mod printing;
 mod samples;
+mod values;
 
-pub use laws::{a_step_is_one_of_three, stuck_sets_unite};
+pub use closed::{Blocking, largest};
+pub use laws::{a_step_is_one_of_three, stuck_sets_are_closed, stuck_sets_unite};
+pub use printing::put_format;
 pub use samples::{
     crossing_locks_get_stuck, threads_take_turns, unlocking_for_another_is_undefined,
 };
+pub use values::{Scope, value};
 
 /// What happens to a thread.
 #[derive(Clone, Copy, Debug, PartialEq, Eq)]

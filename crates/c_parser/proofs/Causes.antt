@@ -18,7 +18,7 @@ use Rattle.c_tokens.specs.declared.reader.End.TheVariants as end
 use Rattle.c_tokens.specs.Reading.{Leads, nothing, one_skip, one_word, BeginsWith, Stops, most}
 use Rattle.c_alike.specs.Alike.{LeftAlike, SameOutcome}
 use Rattle.c_parser.specs.Answer.{Answer, fault_at, when_read, when_failed, when_left}
-use Rattle.c_parser.specs.Parsed.{TokenFails, Parsed}
+use Rattle.c_parser.specs.Parsed.{TokenFails, Parsed, IsAnswer, HasAnswer}
 use Rattle.c_parser.proofs.Open.{fails_as_syntax, fails_as_too_deep, fails_at_end, no_deep_end, spelled_open, within_levels}
 
 -- the answer by the outcome of the parser
@@ -41,6 +41,21 @@ leads_first (one_word {before} {all} {w = bytes} {kind = kind} {words = others} 
 
 pub begins_first : (text : List ℕ) (words more : List Word) → BeginsWith text (words ++ more) → BeginsWith text words
 begins_first text words more h = leads_first h.2 words more refl
+
+-- these answers aren't want of memory
+read_told : (p : Program) (e : End) → IsAnswer (when_read p e)
+read_told p end.Text = tt
+read_told p (end.Refused error) = tt
+read_told p end.Longer = tt
+
+failed_told : (e : End) (on : ℕ) → IsAnswer (Err (when_failed e on))
+failed_told end.Text on = tt
+failed_told (end.Refused error) on = tt
+failed_told end.Longer on = tt
+
+fault_told : (f : Fault) (l : ℕ) → IsAnswer (Err (fault_at f l))
+fault_told fault.Syntax l = tt
+fault_told fault.TooDeep l = tt
 
 module _ (text : List ℕ) (words : List Word) (begins : BeginsWith text words) (few : length words ≤ most) where
   abbrev on : ℕ
@@ -72,9 +87,9 @@ module _ (text : List ℕ) (words : List Word) (begins : BeginsWith text words) 
     place = m;
   }
 
-  left : (f : Fault) (u : Marked) (t : Word) (rest : List Word) → t.line ≡ u.line → FailsAt (Spells on) below 63 words f (t ∷ rest) → Parsed text (Err (fault_at f u.line))
-  left fault.Syntax u t rest e x = let h = fails_as_syntax on words rest t x in inl (token_fails FailsAsSyntax h.0 rest t u.line h.1 h.2 e)
-  left fault.TooDeep u t rest e x = let h = fails_as_too_deep on words rest t x in token_fails FailsAsTooDeep h.0 rest t u.line h.1 h.2 e
+  left : (f : Fault) (l : ℕ) (t : Word) (rest : List Word) → t.line ≡ l → FailsAt (Spells on) below 63 words f (t ∷ rest) → Parsed text (Err (fault_at f l))
+  left fault.Syntax l t rest e x = let h = fails_as_syntax on words rest t x in inl (token_fails FailsAsSyntax h.0 rest t l h.1 h.2 e)
+  left fault.TooDeep l t rest e x = let h = fails_as_too_deep on words rest t x in token_fails FailsAsTooDeep h.0 rest t l h.1 h.2 e
 
   -- ---- by the outcome
 
@@ -84,7 +99,7 @@ module _ (text : List ℕ) (words : List Word) (begins : BeginsWith text words) 
   failed_by : (f : Fault) (x : List Marked) (y : List Word) (e : End) → LeftAlike text x y → Stops text words e → FailsAt (Spells on) below 63 words f y → Parsed text (Err (when_left f x e on))
   failed_by fault.Syntax [] [] e a s x = failed e s (fails_at_end on words x)
   failed_by fault.TooDeep [] [] e a s x = absurd (no_deep_end on words x)
-  failed_by f (u ∷ x) (t ∷ y) e a s z = left f u t y (same_line a.0 u t a.1.0.seen) z
+  failed_by f (u ∷ x) (t ∷ y) e a s z = left f u.line t y (same_line a.0 u t a.1.0.seen) z
   failed_by f [] (t ∷ y) e a s x = absurd a.1
   failed_by f (u ∷ x) [] e a s z = absurd a.1
 
@@ -96,3 +111,15 @@ module _ (text : List ℕ) (words : List Word) (begins : BeginsWith text words) 
   parsed_by e s (Failed f rest) (Failed g y) a x = subst (λ (f : Fault). Parsed text (Err (when_left f rest e on))) (sym a.0) (failed_by g rest y e a.1 s x)
   parsed_by e s (Got p rest) (Failed g y) a x = absurd a
   parsed_by e s (Failed f rest) (Got q y) a x = absurd a
+
+  -- ---- by the outcome of the parser of words
+
+  answered_failed : (f : Fault) (y : List Word) (e : End) → Stops text words e → FailsAt (Spells on) below 63 words f y → HasAnswer text
+  answered_failed fault.Syntax [] e s x = record { answer = Err (when_failed e on); cause = failed e s (fails_at_end on words x); told = failed_told e on }
+  answered_failed fault.TooDeep [] e s x = absurd (no_deep_end on words x)
+  answered_failed f (t ∷ y) e s x = record { answer = Err (fault_at f t.line); cause = left f t.line t y refl x; told = fault_told f t.line }
+
+  pub answered_by : (e : End) → Stops text words e → (theory : Outcome Word (Tall Program)) → IsExact (Spells on) below 63 words (at_end theory) → HasAnswer text
+  answered_by e s (Got q []) x = record { answer = when_read q.tree e; cause = read q e s x.1 x.2; told = read_told q.tree e }
+  answered_by e s (Got q (t ∷ y)) x = answered_failed fault.Syntax (t ∷ y) e s x
+  answered_by e s (Failed g y) x = answered_failed g y e s x

@@ -15,7 +15,7 @@ use Rattle.c_tokens.specs.Reading.{BeginsWith, most}
 use Rattle.c_tokens.proofs.Leads.{OneGoesOn, one_goes_on, scan_leads, within_scan}
 use Rattle.c_parser.specs.declared.error.ParseError.TheVariants as error
 use Rattle.c_parser.specs.Answer.{Answer}
-use Rattle.c_parser.specs.Parsed.{Parsed, Is}
+use Rattle.c_parser.specs.Parsed.{Parsed, IsAnswer, Is}
 use Rattle.c_parser.proofs.Open.{spelled_open, open_before}
 use Rattle.c_parser.proofs.Causes.{begins_first}
 
@@ -145,11 +145,6 @@ halted_word text words word a b few begins shut x = record {
   };
   event = goes_on b x;
 }
-
--- an answer that isn't want of memory
-abbrev pub IsAnswer : Answer → Type 0
-IsAnswer (Err error.Memory) = ⊥
-IsAnswer a = Unit {0}
 
 halted : (text : List ℕ) (a : Answer) → Parsed text a → IsAnswer a → Halted text a
 halted text (Ok p) x y = halted_end text x.words None (Ok p) x.tokens x.few (spelled_open (line text) x.words (tall p x.levels) x.spells x.within) (spelled x.spells)

@@ -66,6 +66,24 @@ Parsed text (Err (error.TooDeep on)) = TooDeepOnLine text on
 Parsed text (Err error.TooManyTokens) = GoesOnTooLong text
 Parsed text (Err error.Memory) = Unit {0}
 
+-- an answer that isn't want of memory
+abbrev pub IsAnswer : Answer → Type 0
+IsAnswer (Err error.Memory) = ⊥
+IsAnswer answer = Unit {0}
+
+-- A text has this answer.
+pub record HasAnswer (text : List ℕ) : Type 0 where
+  pub answer : Answer
+  pub cause : Parsed text answer
+  pub told : IsAnswer answer
+
+-- Each text has an answer, and no other one.
+abbrev pub EachTextHasAnswer : Type 0
+EachTextHasAnswer = (text : List ℕ) → HasAnswer text
+
+abbrev pub OneAnswer : Type 0
+OneAnswer = (text : List ℕ) (a b : Answer) → Parsed text a → IsAnswer a → Parsed text b → IsAnswer b → a ≡ b
+
 -- An answer is this one, unless memory ran out.
 abbrev pub Is : Answer → Answer → Type 0
 Is (Err error.Memory) other = Unit {0}

@@ -14,5 +14,5 @@ mod parser;
 mod tests;
 
 pub use error::ParseError;
-pub use laws::one_program;
+pub use laws::{one_answer, one_program};
 pub use parser::parse;

@@ -1,6 +1,6 @@
 //! The parser of texts.
 
-ghost use Rattle.std.specs.Prelude.{◌≡◌, ◌<◌, ◌≤◌, ◌^◌, ℕ, length, Ok, Err};
+ghost use Rattle.std.specs.Prelude.{◌≡◌, ◌<◌, ◌≤◌, ◌^◌, ℕ, length, Ok, Err, IfOk};
 ghost use Rattle.std.specs.List.{count_by};
 ghost use Rattle.c_lexer.specs.declared.token.LexError.{LexError as AnyLexError};
 ghost use Rattle.c_lexer.specs.Classes.{is_newline};
@@ -35,7 +35,8 @@ fn fault_at(fault: Fault, line: u32) -> ParseError
 
 /// All tokens were read as a program. It is the answer where the text ends there.
 fn when_read(program: Program, end: End) -> Result<Program, ParseError>
-    ensures { shown result ≡ when_read (program_of program) end }
+    ensures is { shown result ≡ when_read (program_of program) end }
+    ensures same { IfOk result (λ p. p ≡ program) }
 {
     match end {
         End::Text => Ok(program),
@@ -85,7 +86,8 @@ fn last_line(text: &[u8]) -> u32
 fn parse_tokens(alloc: Global, text: &[u8], tokens: &Tokens) -> Result<Program, ParseError>
     requires short { length text.now < 2 ^ 31 }
     requires read { IsRead text.now tokens.now }
-    ensures { Parsed text.now (shown result) }
+    ensures cause { Parsed text.now (shown result) }
+    ensures few { IfOk result (λ p. length p.functions ≤ 65536) }
 {
     let line = last_line(text);
     match program(alloc, text, LEVELS, line, &tokens.marks) {
@@ -109,7 +111,7 @@ fn parse_tokens(alloc: Global, text: &[u8], tokens: &Tokens) -> Result<Program, 
 /// - `TooDeep`: with the token on this line they begin only programs that take more levels.
 /// - `TooManyTokens`: 65,536 tokens begin a program within the levels, and another token follows.
 ///
-/// `Memory` may come at any time.
+/// `Memory` may come at any time. A program has at most 65,536 functions.
 pub fn parse(alloc: Global, text: &[u8]) -> Result<Program, ParseError>
     requires { length text.now < 2 ^ 31 }
     ensures cause { Parsed text.now (shown result) }
@@ -118,6 +120,7 @@ pub fn parse(alloc: Global, text: &[u8]) -> Result<Program, ParseError>
     ensures syntax { (on : ℕ) → FailsOnLine text.now on → Is (shown result) (Err (Syntax on)) }
     ensures too_deep { (on : ℕ) → TooDeepOnLine text.now on → Is (shown result) (Err (TooDeep on)) }
     ensures too_many { GoesOnTooLong text.now → Is (shown result) (Err TooManyTokens) }
+    ensures few { IfOk result (λ p. length p.functions ≤ 65536) }
 {
     let tokens = read_tokens(alloc, text)?;
     parse_tokens(alloc, text, &tokens)

@@ -58,3 +58,8 @@ AnswersFor files names (Some task) answer = AnswersOn task names (fetched files 
 -- what a list of words answers of these files
 abbrev pub Answers : List (List ℕ) → Files → Answered → Type 0
 Answers words files answer = AnswersFor files (names_of words) (task_of words) answer
+
+-- a list of words has an answer of these files
+pub record IsAnswered (words : List (List ℕ)) (files : Files) : Type 0 where
+  pub answer : Answered
+  pub is : Answers words files answer

@@ -93,6 +93,48 @@ int main(void) {
 }
 ";
 
+// The same with a monitor around the locks, as the tool is to write it.
+const MONITORED: &str = "#include <pthread.h>
+#include <stdio.h>
+int gd_cap[1] = {1};
+void gd_take(int k);
+void gd_give(int k);
+int x = 0;
+pthread_mutex_t a = PTHREAD_MUTEX_INITIALIZER;
+pthread_mutex_t b = PTHREAD_MUTEX_INITIALIZER;
+pthread_t t[2];
+
+void *one(void *arg) {
+    gd_take(0);
+    pthread_mutex_lock(&a);
+    pthread_mutex_lock(&b);
+    x = x + 1;
+    pthread_mutex_unlock(&b);
+    gd_give(0);
+    pthread_mutex_unlock(&a);
+    return NULL;
+}
+
+void *two(void *arg) {
+    gd_take(0);
+    pthread_mutex_lock(&b);
+    pthread_mutex_lock(&a);
+    x = x + 1;
+    pthread_mutex_unlock(&a);
+    gd_give(0);
+    pthread_mutex_unlock(&b);
+    return NULL;
+}
+
+int main(void) {
+    pthread_create(&t[0], NULL, one, (void *)(long)0);
+    pthread_create(&t[1], NULL, two, (void *)(long)0);
+    pthread_join(t[0], NULL);
+    pthread_join(t[1], NULL);
+    return 0;
+}
+";
+
 const USAGE: &str =
     "gadara: usage: gadara instrument FILE | certify FILE | check FILE CERT | run FILE SCHEDULE INPUT | report FILE | survey N | runtime\n";
 
@@ -178,6 +220,66 @@ fn built(alloc: Global) -> Result<Vec<(String, Vec<u8>)>, AllocError> {
         file(alloc, "octal.c", "int x = 010;\n")?,
         file(alloc, "open.c", "int x;\n/* no end\n")?,
     ]?)
+}
+
+// Texts that spell no well-formed program.
+fn malformed(alloc: Global) -> Result<Vec<(String, Vec<u8>)>, AllocError> {
+    Ok(vec![in alloc;
+        file(alloc, "e.c", "")?,
+        file(alloc, "x.c", "int x;\n")?,
+        file(alloc, "cut.c", "int x;\n/* cut")?,
+        file(alloc, "w2.c", MONITORED)?,
+        (
+            String::from_str(alloc, "b.c")?,
+            vec![in alloc; b' '; 262144]?
+        ),
+        file(
+            alloc,
+            "twice.c",
+            "int x;\nint x;\nint main(void) { y = 1; }\n"
+        )?,
+        file(
+            alloc,
+            "both.c",
+            "int gd_x, gd_x;\nint main(void) { return 0; }\n"
+        )?,
+        file(
+            alloc,
+            "local.c",
+            "int main(void) {\n    if (1) { int k; }\n    x = 1;\n    k = 1;\n}\n"
+        )?,
+    ]?)
+}
+
+// Programs with as much of something as there may be, and with more.
+fn crowded(alloc: Global) -> Result<Vec<(String, Vec<u8>)>, AllocError> {
+    Ok(vec![in alloc;
+        (String::from_str(alloc, "33.c")?, created(alloc, 32)?),
+        file(
+            alloc,
+            "49.c",
+            "pthread_mutex_t a[49];\nint main(void) { return 0; }\n"
+        )?,
+        file(
+            alloc,
+            "cells.c",
+            "int a[65536];\nint x;\nint main(void) { return 0; }\n"
+        )?,
+    ]?)
+}
+
+// a main that creates so many threads
+fn created(alloc: Global, count: usize) -> Result<Vec<u8>, AllocError> {
+    let mut text = Vec::from_slice(
+        alloc,
+        b"pthread_t t[40];\nvoid *f(void *arg) { return NULL; }\nint main(void) {\n",
+    )?;
+    for k in 0..count {
+        let line = format!(in alloc; "pthread_create(&t[{k}], NULL, f, NULL);\n")?;
+        text.extend_from_slice(line.as_bytes())?;
+    }
+    text.extend_from_slice(b"return 0;\n}\n")?;
+    Ok(text)
 }
 
 fn words_of(alloc: Global, line: &str) -> Result<Vec<String>, AllocError> {
@@ -294,6 +396,83 @@ fn texts_of_the_whole_grammar(rt: HostRuntime) -> Result<(), AllocError> {
     ];
     for row in rows {
         assert!(rt; ends_with(alloc, built(alloc)?, row)?, "at {}", row.words);
+    }
+    Ok(())
+}
+
+#[test]
+fn texts_that_break_a_rule(rt: HostRuntime) -> Result<(), AllocError> {
+    let alloc = rt.alloc();
+    let rows = [
+        wanted("instrument e.c", 3, "", "gadara: e.c: line 1: no main\n"),
+        wanted("instrument x.c", 3, "", "gadara: x.c: line 2: no main\n"),
+        wanted(
+            "instrument cut.c",
+            3,
+            "",
+            "gadara: cut.c: line 2: comment is not closed\n",
+        ),
+        wanted(
+            "instrument w2.c",
+            3,
+            "",
+            "gadara: w2.c: line 3: reserved name\n",
+        ),
+        wanted("instrument b.c", 3, "", "gadara: b.c: line 1: no main\n"),
+        wanted(
+            "instrument twice.c",
+            3,
+            "",
+            "gadara: twice.c: line 2: name declared twice\n",
+        ),
+        wanted(
+            "instrument both.c",
+            3,
+            "",
+            "gadara: both.c: line 1: reserved name\n",
+        ),
+        wanted(
+            "instrument local.c",
+            3,
+            "",
+            "gadara: local.c: line 3: unknown name\n",
+        ),
+    ];
+    for row in rows {
+        assert!(rt;
+            ends_with(alloc, malformed(alloc)?, row)?,
+            "at {}",
+            row.words
+        );
+    }
+    Ok(())
+}
+
+#[test]
+fn texts_with_too_many(rt: HostRuntime) -> Result<(), AllocError> {
+    let alloc = rt.alloc();
+    let rows = [
+        wanted(
+            "instrument 33.c",
+            4,
+            "",
+            "gadara: 33.c: limit: threads 32\n",
+        ),
+        wanted(
+            "instrument 49.c",
+            4,
+            "",
+            "gadara: 49.c: limit: mutexes 48\n",
+        ),
+        wanted(
+            "instrument cells.c",
+            4,
+            "",
+            "gadara: cells.c: limit: cells 65536\n",
+        ),
+    ];
+    for row in rows {
+        assert!(rt; ends_with(alloc, crowded(alloc)?, row)?, "at {}", row.words);
     }
     Ok(())
 }

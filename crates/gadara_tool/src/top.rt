@@ -5,14 +5,14 @@ ghost use Rattle.answers.specs.Statuses.{is_written, is_decided};
 ghost use Rattle.answers.specs.Tasks.{texts};
 ghost use Rattle.gd_host.specs.Outside.{Files};
 ghost use Rattle.answers.specs.Answered.{Answered};
-ghost use Rattle.gadara_tool.specs.Answers.{Answers, task_of, names_of, limits_of};
+ghost use Rattle.gadara_tool.specs.Answers.{Answers, IsAnswered, task_of, names_of, limits_of};
 ghost use Rattle.gadara_tool.specs.Fetching.{AsksInOrder, OnlyReads};
 ghost use Rattle.gadara_tool.specs.Ending.{Defines, Ends, NoFault, HasStatus, EndsAsAnswered};
 ghost use Rattle.gadara_tool.specs.Causes.{IsDecided, IsAbsent, IsTooLong, HandsBack, Refuses, PassesLimit, EndsByFile};
 
 use crate::fetching::fetch_all;
 use crate::telling::{complain, tell};
-use answers::{Answer, Status, decide, task_of, too_long, unread, usage};
+use answers::{Answer, Status, decide, one_answer, task_of, too_long, unread, usage};
 use gd_host::{FetchError, Host};
 use std::alloc::{AllocError, Global};
 
@@ -108,7 +108,8 @@ pub fn gadara<H: Host>(alloc: Global, words: &Vec<String>, host: &mut H) -> Stat
     ensures answer { IfSome (H.seen host.old).files
         (λ files. EndsByFile (texts words.now.items) files (H.seen host.old) (H.seen host.new) result) }
 
-    // Each list of words has one answer of the same files.
+    // Each list of words has an answer of the same files, and one alone.
+    ensures some { (files : Files) → IsAnswered (texts words.now.items) files }
     ensures one { (files : Files) (answer other : Answered) → Answers (texts words.now.items) files answer
         → Answers (texts words.now.items) files other → answer ≡ other }
 
@@ -132,5 +133,6 @@ pub fn gadara<H: Host>(alloc: Global, words: &Vec<String>, host: &mut H) -> Stat
     // On every status but these and HostFault nothing is written.
     ensures unwritten { is_written result ≡ false → result ≢ Status.HostFault → (H.seen host.new).out ≡ (H.seen host.old).out }
 {
+    one_answer();
     perform(alloc, words, host)
 }

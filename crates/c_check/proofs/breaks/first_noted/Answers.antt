@@ -3,7 +3,7 @@ use Rattle.c_tree.specs.Lined.{function_of, program_of}
 use Rattle.c_names.specs.Shown.{all_shown}
 use Rattle.c_names.specs.Tables.{meant}
 use Rattle.std.specs.List.{enumerate_from}
-use Rattle.c_check.specs.First.{noted_all}
+use Rattle.c_acts.specs.First.{noted_all}
 use Rattle.c_check.specs.Functions.{functions_breaks}
 use Rattle.c_check.proofs.Programs.{empty_table, program_breaks}
 use Rattle.c_check.proofs.breaks.first_noted.Goals as goal

@@ -1,8 +1,8 @@
 use Rattle.std.proofs.Common.{ap, ◌∙◌}
 use Rattle.c_tree.specs.Lined.{stmts_of}
 use Rattle.c_names.specs.Tables.{in_scope}
-use Rattle.c_check.specs.First.{noted_all}
-use Rattle.c_check.specs.Uses.{around}
+use Rattle.c_acts.specs.First.{noted_all}
+use Rattle.c_acts.specs.Uses.{around}
 use Rattle.c_check.specs.Walk.{with_names}
 use Rattle.c_check.specs.Own.{nothing_past, own_breaks}
 use Rattle.c_check.specs.Functions.{parameter_breaks}

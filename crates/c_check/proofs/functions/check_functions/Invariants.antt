@@ -3,8 +3,8 @@ use Rattle.std.specs.declared.option.Option.{Option}
 use Rattle.std.specs.List.{enumerate_from}
 use Rattle.c_tree.specs.Lined.{function_of}
 use Rattle.c_names.specs.Tables.{meant}
-use Rattle.c_check.specs.declared.first.Break.{Break}
-use Rattle.c_check.specs.First.{noted_all}
+use Rattle.c_acts.specs.declared.first.Break.{Break}
+use Rattle.c_acts.specs.First.{noted_all}
 use Rattle.c_check.specs.Functions.{functions_breaks}
 use Rattle.c_check.proofs.functions.check_functions.Given as goal
 

@@ -1,8 +1,8 @@
 use Rattle.std.proofs.Common.{ap, ◌∙◌, ◌||◌, bytes_eq}
 use Rattle.c_names.specs.Tables.{in_scope}
-use Rattle.c_check.specs.First.{noted_all}
-use Rattle.c_check.specs.Uses.{around}
-use Rattle.c_check.specs.Acts.{local_breaks}
+use Rattle.c_acts.specs.First.{noted_all}
+use Rattle.c_acts.specs.Uses.{around}
+use Rattle.c_acts.specs.Acts.{local_breaks}
 use Rattle.c_check.proofs.Walks.{same_tests}
 use Rattle.c_check.proofs.Wholes.{parameter_turn, enter_turn, enter_end}
 use Rattle.c_check.proofs.functions.check_parameters.Goals as goal

@@ -1,9 +1,9 @@
 use Rattle.std.proofs.Common.{◌≡◌, ℕ, List, Bool, drop}
 use Rattle.std.specs.declared.option.Option.{Option}
 use Rattle.c_names.specs.Tables.{in_scope}
-use Rattle.c_check.specs.declared.first.Break.{Break}
-use Rattle.c_check.specs.First.{noted_all}
-use Rattle.c_check.specs.Uses.{Around, around}
+use Rattle.c_acts.specs.declared.first.Break.{Break}
+use Rattle.c_acts.specs.First.{noted_all}
+use Rattle.c_acts.specs.Uses.{Around, around}
 use Rattle.c_check.specs.Walk.{with_names}
 use Rattle.c_check.specs.Functions.{parameter_breaks}
 use Rattle.c_check.proofs.functions.check_parameters.Given as goal

@@ -4,8 +4,8 @@ use Rattle.c_tree.specs.declared.program.Mode.{Mode}
 use Rattle.c_rules.specs.Declarations.{Declaration}
 use Rattle.c_names.specs.Shown.{all_shown}
 use Rattle.c_names.specs.Tables.{meant}
-use Rattle.c_check.specs.declared.first.Break.{Break}
-use Rattle.c_check.specs.First.{noted_all}
+use Rattle.c_acts.specs.declared.first.Break.{Break}
+use Rattle.c_acts.specs.First.{noted_all}
 use Rattle.c_check.specs.Outer as spec
 use Rattle.c_check.proofs.outer.check_declarations.Given as goal
 

@@ -1,7 +1,7 @@
 use Rattle.std.proofs.Common.{◌≡◌, drop, map}
 use Rattle.std.specs.Prelude.{flat_map}
 use Rattle.c_tree.specs.Lined.{function_of}
-use Rattle.c_check.specs.First.{noted_all}
+use Rattle.c_acts.specs.First.{noted_all}
 use Rattle.c_check.specs.Outer as spec
 use Rattle.c_check.proofs.outer.check_long_names.Given as goal
 

@@ -6,7 +6,7 @@ use Rattle.c_tree.specs.declared.program.Function.{Function}
 use Rattle.c_tree.specs.Lined.{function_of, program_of}
 use Rattle.c_rules.specs.declared.rule.Rule.TheVariants.{NoMain}
 use Rattle.c_rules.specs.Sites.{is_main}
-use Rattle.c_check.specs.First.{noted_all, break_if}
+use Rattle.c_acts.specs.First.{noted_all, break_if}
 use Rattle.c_check.specs.Outer.{array_breaks, object_breaks, slot_breaks, length_breaks, capacity_breaks}
 use Rattle.c_check.proofs.Outers.{noted_seven}
 use Rattle.c_check.proofs.outer.check_parts.Goals as goal

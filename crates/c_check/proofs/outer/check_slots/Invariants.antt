@@ -1,6 +1,6 @@
 use Rattle.std.proofs.Common.{◌≡◌, drop}
 use Rattle.std.specs.Prelude.{flat_map}
-use Rattle.c_check.specs.First.{noted_all}
+use Rattle.c_acts.specs.First.{noted_all}
 use Rattle.c_check.specs.Outer as spec
 use Rattle.c_check.proofs.outer.check_slots.Given as goal
 

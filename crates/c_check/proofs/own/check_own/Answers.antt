@@ -1,6 +1,6 @@
 use Rattle.std.proofs.Common.{ap, ◌∙◌, ◌||◌, not}
 use Rattle.c_names.specs.Tables.{in_scope}
-use Rattle.c_check.specs.Uses.{around}
+use Rattle.c_acts.specs.Uses.{around}
 use Rattle.c_check.specs.Own.{past_of}
 use Rattle.c_check.proofs.Owned.{own_turn}
 use Rattle.c_check.proofs.own.check_own.Goals as goal

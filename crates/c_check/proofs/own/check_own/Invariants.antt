@@ -1,8 +1,8 @@
 use Rattle.std.proofs.Common.{◌≡◌, drop}
 use Rattle.c_tree.specs.Lined.{stmts_of}
 use Rattle.c_names.specs.Tables.{in_scope}
-use Rattle.c_check.specs.First.{noted_all}
-use Rattle.c_check.specs.Uses.{around}
+use Rattle.c_acts.specs.First.{noted_all}
+use Rattle.c_acts.specs.Uses.{around}
 use Rattle.c_check.specs.Own as spec
 use Rattle.c_check.proofs.own.check_own.Given as goal
 

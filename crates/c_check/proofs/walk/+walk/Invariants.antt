@@ -4,9 +4,9 @@ use denote.Ref.{Bor}
 use Rattle.c_tree.specs.Lined.{stmts_of, Stmts}
 use Rattle.c_rules.specs.Sites.{locals_of}
 use Rattle.c_names.specs.Tables.{in_scope}
-use Rattle.c_check.specs.declared.first.Break.{Break}
-use Rattle.c_check.specs.First.{noted_all}
-use Rattle.c_check.specs.Uses.{Around, around}
+use Rattle.c_acts.specs.declared.first.Break.{Break}
+use Rattle.c_acts.specs.First.{noted_all}
+use Rattle.c_acts.specs.Uses.{Around, around}
 use Rattle.c_check.specs.Walk as spec
 use Rattle.c_check.proofs.walk.+walk.Given as goal
 

@@ -1,6 +1,6 @@
 use Rattle.c_tree.specs.Expressions.{value_of}
 use Rattle.c_names.specs.Tables.{in_scope}
-use Rattle.c_check.specs.Uses.{around}
+use Rattle.c_acts.specs.Uses.{around}
 use Rattle.c_check.proofs.Walks.{declare_breaks_both, same_tests}
 use Rattle.c_check.proofs.walk.check_declare.Goals as goal
 

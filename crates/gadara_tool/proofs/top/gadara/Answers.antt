@@ -1,7 +1,7 @@
 use Rattle.answers.specs.Tasks.{texts}
 use Rattle.gadara_tool.proofs.Derived.{where_told, exact_ends, status_ends, cause_ends, quiet_ends, unwritten_ends, usage_ends, shapes_end}
 use Rattle.gadara_tool.proofs.Causes.{decided_status, too_long_ends, absent_ends}
-use Rattle.gadara_tool.proofs.One.{answers_one, ends_by_file}
+use Rattle.gadara_tool.proofs.One.{answers_one, answers_some, ends_by_file}
 use Rattle.gadara_tool.proofs.Instrumented.{done_ends, refused_ends, limit_ends}
 use Rattle.gadara_tool.proofs.top.gadara.Goals as goal
 
@@ -30,10 +30,13 @@ pub returns-clause-limit : goal.returns-clause-limit
 returns-clause-limit g c = λ limit. where_told _ _ (λ files told. limit_ends _ _ _ _ (rw c.deref.ensures.value at c.perform.ensures.ends) limit files told)
 
 pub returns-clause-answer : goal.returns-clause-answer
-returns-clause-answer g c = where_told _ _ (λ files told. ends_by_file _ _ _ _ (rw c.deref.ensures.value at c.perform.ensures.ends) files told)
+returns-clause-answer g c = where_told _ _ (λ files told. ends_by_file c.one_answer.ensures.one _ _ _ _ (rw c.deref.ensures.value at c.perform.ensures.ends) files told)
+
+pub returns-clause-some : goal.returns-clause-some
+returns-clause-some g c = λ files. answers_some c.one_answer.ensures.some (texts c.args.words.now.items) files
 
 pub returns-clause-one : goal.returns-clause-one
-returns-clause-one g c = λ files answer other x y. answers_one (texts c.args.words.now.items) files answer other x y
+returns-clause-one g c = λ files answer other x y. answers_one c.one_answer.ensures.one (texts c.args.words.now.items) files answer other x y
 
 pub returns-clause-too_long : goal.returns-clause-too_long
 returns-clause-too_long g c = where_told _ _ (λ files told. too_long_ends _ _ _ _ (rw c.deref.ensures.value at c.perform.ensures.ends) files told)

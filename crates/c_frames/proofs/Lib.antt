@@ -1,0 +1,9 @@
+pub mod Shapes
+pub mod Standings
+pub mod Leaving
+pub mod Lower
+pub mod LocalMaps
+pub mod LocalPlaces
+pub mod Placed
+pub mod Collecting
+pub mod EverywhereNext

@@ -1,0 +1,6 @@
+pub mod Everywhere
+pub mod Heights
+pub mod Positions
+pub mod LocalValues
+pub mod Names
+pub mod Frames
