@@ -1,0 +1,11 @@
+pub mod Acquirings
+pub mod BelowNewest
+pub mod Changing
+pub mod Effects
+pub mod Largest
+pub mod MaySetting
+pub mod Rows
+pub mod Shown
+pub mod WaitsEnd
+pub mod Wakings
+pub mod Started

@@ -1,0 +1,19 @@
+use Rattle.std.proofs.Common.{◌∷◌, Option, ℕ, refl, sym, ap, ◌∙◌, subst, false}
+use Rattle.c_tree.specs.Bare.{Unlock}
+use Rattle.c_tree.specs.Expressions.{place_of}
+use Rattle.c_meaning.specs.State.{frame}
+use Rattle.c_meaning.specs.Locks.{unlocked}
+use Rattle.c_steps.specs.Model.{state_of}
+use Rattle.c_steps.specs.Answers.{Answers}
+use Rattle.c_steps.proofs.state.State.unlock.Goals as goal
+
+pub returns-in-Some-clause-is : goal.returns-in-Some-clause-is
+returns-in-Some-clause-is c at =
+    let act = Unlock (place_of c.args.place.now) in
+    let s = state_of c.args.p.now c.args.self.now in
+    let Comes : Option ℕ → Type 0 = λ mutex. Answers false (unlocked s c.args.t (frame at.locals at.rest ∷ at.more) mutex) c.unlock_mutex.result s (state_of c.args.p.now c.unlock_mutex.new.self) in
+    subst Comes (sym c.in-Some.is ∙ c.mutex_at.ensures act at) (c.unlock_mutex.ensures.is act at)
+
+pub returns-in-None-clause-is : goal.returns-in-None-clause-is
+returns-in-None-clause-is c at =
+    (ap (unlocked (state_of c.args.p.now c.args.self.now) c.args.t (frame at.locals at.rest ∷ at.more)) (sym (c.mutex_at.ensures (Unlock (place_of c.args.place.now)) at) ∙ c.in-None.is), refl)

@@ -1,0 +1,10 @@
+pub mod Answers
+pub mod Kept
+pub mod Model
+pub mod Running
+pub mod Setting
+pub mod Sight
+pub mod Standing
+pub mod Acquiring
+pub mod Blocks
+pub mod Asking

@@ -1,0 +1,9 @@
+//! The numbers of programs that texts spell.
+//!
+//! The steps of a program are computed where the numbers of its expressions are small (`c_steps`). Each program that a
+//! text spells has only such numbers ([`spelled_is_small`]), so one that was parsed can be started.
+#![tactic(auto)]
+
+mod laws;
+
+pub use laws::spelled_is_small;

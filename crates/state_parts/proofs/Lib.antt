@@ -1,0 +1,9 @@
+pub mod Changed
+pub mod Deeper
+pub mod Firsts
+pub mod Framing
+pub mod InFront
+pub mod Making
+pub mod Newest
+pub mod Starts
+pub mod Told

@@ -1,0 +1,6 @@
+use Rattle.c_meaning.specs.Shown.{shown}
+use Rattle.state_parts.proofs.Told.{told}
+use Rattle.state_parts.proofs.view.View.scalar_cell.Goals as goal
+
+pub returns : goal.returns
+returns c = told c.args.self.now.numbered (c.scalar.ensures (shown c.args.self.now.program.now))

@@ -1,0 +1,10 @@
+pub mod Accepted
+pub mod First
+pub mod Onward
+pub mod Small
+pub mod Starting
+pub mod Statements
+pub mod Targets
+pub mod Threads
+pub mod Valid
+pub mod Waiting
