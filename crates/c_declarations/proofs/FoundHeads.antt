@@ -21,7 +21,7 @@ use Rattle.c_declarations.specs.declared.tree.Begun.TheVariants as begun
 use Rattle.c_declarations.specs.Parsers.{line, is_fixed, name, number, length_behind, alone, grown, more, braced, ended, numbers, prototype_end, prototype, capacities_of, capacity_values, prototypes, capacities, parameter, no_parameters_by, no_parameters, some_parameters, parameters_by, parameters, main_head, int_head, void_head, start_parameter, start_head, thread_head, void_by, head_behind_void, by_head, by_cells, by_capacities, cells_behind, head_or_cells, capacities_by, capacities_head, capacities_or_head, main_or_cells, function_or_cells, behind_int_by, behind_int}
 use Rattle.c_declarations.specs.Shown.{ints_of, head_of}
 use Rattle.c_declarations.specs.Shown.{capacities_of as shown_capacities}
-use Rattle.c_declarations.specs.Laws.{SpellsBehindInt}
+use Rattle.c_declarations.specs.Spelled.{SpellsBehindInt}
 use Rattle.c_declarations.specs.declared.tree.Ints.{Ints}
 use Rattle.c_declarations.proofs.Shorter.{less_number, less_parameter}
 use Rattle.c_declarations.proofs.FoundLists.{word_finds, ended_finds, ended_behind, more_finds, commas_reach}

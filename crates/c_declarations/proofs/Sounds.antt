@@ -26,7 +26,7 @@ use Rattle.c_declarations.specs.declared.tree.Head.{Head}
 use Rattle.c_declarations.specs.Words.{same_word, number_of, held}
 use Rattle.c_declarations.specs.Parsers.{line, is_fixed, go_with, name, number, length_behind, alone, grown, comma, commas, braced, ended, negative, value, values, array_end, array_behind, scalar_behind, cell_behind, cell, no_ints, with_declared, cells_behind, is_initial, initial, counted, initials, ready_by, object_of, objects_end, objects_behind, ready_object, object_behind, object, objects, is_ready, numbers, prototype_end, prototype, capacity_values, prototypes, capacities, parameter, no_parameters_by, no_parameters, some_parameters, parameters_by, parameters, main_head, int_head, void_head, start_parameter, start_head, thread_head, head_behind_void, by_capacities, function_or_cells, head_or_cells, capacities_or_head, behind_int_by, behind_int}
 use Rattle.c_declarations.specs.Shown.{declared_of, ints_of, sort_of, capacities_of, head_of}
-use Rattle.c_declarations.specs.Laws.{SpellsInts, SpellsBehindInt}
+use Rattle.c_declarations.specs.Spelled.{SpellsInts, SpellsBehindInt}
 use Rattle.c_declarations.proofs.Tokens.{item_at, sign_at, fixed_at, number_at, held_at, seen_at}
 
 -- ---- ints as they are gathered

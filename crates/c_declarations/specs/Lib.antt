@@ -1,4 +1,4 @@
 pub mod Words
 pub mod Parsers
 pub mod Shown
-pub mod Laws
+pub mod Spelled

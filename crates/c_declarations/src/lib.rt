@@ -2,15 +2,14 @@
 //! capacities of monitors, and the heads of functions.
 //!
 //! Each function reads what the function of its name in `specs/` does, which is a parser over lists of
-//! tokens made of the combinators of `parse_laws`. The laws in `laws` say that what it reads is what the
-//! grammar spells.
+//! tokens made of the combinators of `parse_laws`. That what is read is what the grammar spells is said of
+//! whole programs, by `c_programs` and `c_parser`.
 #![tactic(auto)]
 
 pub mod capacity;
 pub mod cell;
 pub mod declaration;
 pub mod function;
-pub mod laws;
 pub mod object;
 pub mod token;
 pub mod tree;

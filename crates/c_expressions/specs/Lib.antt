@@ -3,6 +3,5 @@ pub mod Words
 pub mod Parsers
 pub mod Named
 pub mod Gives
-pub mod Laws
 pub mod Honest
 pub mod Ends

@@ -2,13 +2,12 @@
 //! of a new thread.
 //!
 //! Each function reads what the function of its name in `specs/` does, which is a parser over lists of
-//! tokens made of the combinators of `parse_laws`. The laws in `laws` say that what it reads is what the
-//! grammar spells.
+//! tokens made of the combinators of `parse_laws`. That what is read is what the grammar spells is said of
+//! whole programs, by `c_programs` and `c_parser`.
 #![tactic(auto)]
 
 pub mod argument;
 pub mod expression;
-pub mod laws;
 pub mod list;
 pub mod part;
 pub mod tall;

@@ -27,7 +27,7 @@ use Rattle.c_declarations.specs.declared.tree.Begun.{Begun}
 use Rattle.c_declarations.specs.declared.tree.Begun.TheVariants as begun
 use Rattle.c_declarations.specs.Parsers.{line}
 use Rattle.c_declarations.specs.Shown.{sort_of, capacities_of, head_of}
-use Rattle.c_declarations.specs.Laws.{SpellsBehindInt}
+use Rattle.c_declarations.specs.Spelled.{SpellsBehindInt}
 use Rattle.c_declarations.proofs.Tokens.{sign_at, seen_at}
 use Rattle.c_declarations.proofs.Sounds.{behind_int_sound, behind_void_sound, objects_sound}
 use Rattle.c_fronts.specs.Fronts.{is_plain, all_plain, Takes}

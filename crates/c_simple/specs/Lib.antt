@@ -1,4 +1,3 @@
 pub mod Words
 pub mod Parsers
 pub mod Gives
-pub mod Laws

@@ -6,7 +6,6 @@
 
 pub mod assignments;
 pub mod declarations;
-pub mod laws;
 pub mod library;
 pub mod results;
 pub mod simple;

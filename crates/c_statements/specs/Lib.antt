@@ -2,4 +2,3 @@ pub mod Words
 pub mod Parsers
 pub mod Gives
 pub mod Ends
-pub mod Laws

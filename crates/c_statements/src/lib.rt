@@ -5,7 +5,6 @@
 #![tactic(auto)]
 
 pub mod body;
-pub mod laws;
 pub mod part;
 pub mod slot;
 pub mod statement;

@@ -2,16 +2,11 @@
 //! mutexes, and refuses another.
 #![tactic(auto)]
 
-mod fetching;
-mod telling;
-mod top;
-
 use answers::Status;
 use gd_host::RealHost;
 use std::process::ExitCode;
 use std::{env, io};
-use telling::complain;
-use top::gadara;
+use top_call::{complain, gadara};
 
 /// Runs the tool on the words of the command line, and ends with its status as the number. Where the
 /// words can't be had, it ends with 7 and its line for want of memory, and else with 6.
@@ -38,6 +33,3 @@ fn words(rt: &HostRuntime) -> io::Result<Vec<String>> {
     }
     Ok(words)
 }
-
-#[cfg(test)]
-mod tests;

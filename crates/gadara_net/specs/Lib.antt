@@ -1,0 +1,9 @@
+pub mod Chains
+pub mod Indexed
+pub mod Flows
+pub mod Marks
+pub mod Graphs
+pub mod Sums
+pub mod Bounds
+pub mod Measured
+pub mod Sets

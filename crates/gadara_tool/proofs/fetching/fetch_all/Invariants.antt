@@ -1,7 +1,0 @@
-use Rattle.answers.specs.Tasks.{texts, limit_of}
-use Rattle.answers.specs.Decides.{contents}
-use Rattle.gadara_tool.specs.Fetching.{HasRead}
-use Rattle.gadara_tool.proofs.fetching.fetch_all.Given as goal
-
-abbrev pub invariant-loop-name : goal.invariant-loop-name
-invariant-loop-name g l = HasRead (limit_of l.task) (texts l.names) (g.H.Host.seen l.fn.host) (g.H.Host.seen l.host) (contents l.files.items) l.name-index

@@ -1,0 +1,6 @@
+pub mod Net
+pub mod Shown
+pub mod Siphons
+pub mod Candidates
+pub mod Lines
+pub mod Markings

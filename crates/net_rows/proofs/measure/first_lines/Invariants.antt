@@ -1,0 +1,8 @@
+use Rattle.std.proofs.Common.{◌≡◌, ◌+◌, length}
+use Rattle.net_rows.proofs.measure.first_lines.Given as goal
+
+abbrev pub invariant-loop : goal.invariant-loop
+invariant-loop l = record {
+  size : l.scratch.size ≡ length l.net.points + length l.net.tokens;
+  room : l.work ≡ length l.net.points;
+}

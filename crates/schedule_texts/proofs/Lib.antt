@@ -1,0 +1,7 @@
+mod Decimals
+mod Shapes
+mod Sayings
+mod Numbers
+mod Valued
+mod OneSchedule
+mod OneInput

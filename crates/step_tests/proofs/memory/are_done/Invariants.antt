@@ -1,6 +1,0 @@
-use Rattle.c_steps.specs.Kept.{IsStateOf}
-use Rattle.step_tests.proofs.memory.are_done.Given as goal
-
--- the state stays one of the program
-abbrev pub invariant-loop-turn : goal.invariant-loop-turn
-invariant-loop-turn l = IsStateOf l.p l.state

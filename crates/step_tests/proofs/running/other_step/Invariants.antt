@@ -1,6 +1,0 @@
-use Rattle.c_steps.specs.Kept.{IsStateOf}
-use Rattle.step_tests.proofs.running.other_step.Given as goal
-
--- the state stays one of the program
-abbrev pub invariant-loop-k : goal.invariant-loop-k
-invariant-loop-k l = IsStateOf l.p l.state
