@@ -1,7 +1,7 @@
 // Texts with one token changed.
 
-use crate::answers::read;
 use crate::report::Report;
+use crate::said::read;
 use std::alloc::{AllocError, Global};
 
 /// Tokens that are parted by single blanks, and what stands before and behind them.

@@ -26,20 +26,20 @@
 //! For each table it prints how many rows it has, and how many differ.
 #![tactic(auto)]
 
-mod answers;
 mod calls;
 mod changes;
 mod items;
+mod judging;
 mod report;
-mod rows;
 mod runs;
+mod said;
 mod schedules;
 mod tables;
 mod texts;
 mod traces;
 
+use judging::judge;
 use report::Report;
-use rows::judge;
 use std::{env, fs, io};
 
 /// Judges the rows of the tables that the command line names. What can't be had ends it.

@@ -100,6 +100,34 @@ fn judge_output(
     }
 }
 
+/// Does an event, and says what came of it.
+fn stepped(
+    alloc: Global,
+    state: &mut State,
+    p: &Program,
+    event: Event,
+) -> Result<String, AllocError>
+    requires { IsStateOf p.now state.old }
+    ensures { IsStateOf p.now state.new }
+{
+    let came = state.step(p, event);
+    format!(in alloc; "{came:?}")
+}
+
+/// Does what is asked, or says what is seen, in words.
+fn said(alloc: Global, state: &mut State, p: &Program, asked: &str) -> Result<String, AllocError>
+    requires accepted { Accepted p.now }
+    requires state { IsStateOf p.now state.old }
+    ensures { IsStateOf p.now state.new }
+{
+    let (word, words) = worded(asked);
+    match event(word, words) {
+        Some(event) => stepped(alloc, state, p, event),
+        None if word == "main" => steps(alloc, state, p, number(words)),
+        None => seen(alloc, state, p, word),
+    }
+}
+
 /// Does what a line says, and compares what comes of it.
 fn judge_line(
     alloc: Global,
@@ -114,20 +142,11 @@ fn judge_line(
     ensures { IsStateOf p.now state.new }
 {
     let (asked, wanted) = fields(line);
-    let wanted = wanted.unwrap_or("");
-    let (word, words) = worded(asked);
-    if word == "output" {
-        return judge_output(alloc, names, state, line, wanted, report);
+    if asked == "output" {
+        return judge_output(alloc, names, state, line, wanted.unwrap_or(""), report);
     }
-    let came = match event(word, words) {
-        Some(event) => {
-            let came = state.step(p, event);
-            format!(in alloc; "{came:?}")?
-        }
-        None if word == "main" => steps(alloc, state, p, number(words))?,
-        None => seen(alloc, state, p, word)?,
-    };
-    report.compare(alloc, line, came.as_str(), wanted)
+    let came = said(alloc, state, p, asked)?;
+    report.compare(alloc, line, came.as_str(), wanted.unwrap_or(""))
 }
 
 /// Does what the lines of a row say, one after the other.

@@ -1,8 +1,8 @@
 // The numbers of programs.
 
-use crate::answers::program_of;
 use crate::items::{fields, worded};
 use crate::report::Report;
+use crate::said::program_of;
 use crate::texts::{Names, spelled};
 use c_check::{Table, check};
 use c_tree::Mode;

@@ -1,11 +1,11 @@
 // The rows of a table, one after the other.
 
-use crate::answers::{read, ruled};
 use crate::calls::{Call, Files, judge_call};
 use crate::changes::{Sample, judge_changes};
 use crate::items::{fields, is_inner, is_silent, worded};
 use crate::report::Report;
 use crate::runs::judge_run;
+use crate::said::{read, ruled};
 use crate::schedules::{input_read, schedule_read};
 use crate::tables::{judge_table, table_of};
 use crate::texts::{Names, between, spelled};
