@@ -4,7 +4,7 @@ use Rattle.std.specs.Prelude.{Option, Result, IfOk, codes, nat_le}
 use Rattle.c_tree.specs.declared.program.Mode.TheVariants.{Source}
 use Rattle.c_tree.specs.Lined as lined
 use Rattle.c_tree.specs.Lined.{bare_program}
-use Rattle.c_tree.specs.FirstForm.{is_first_form, first_nested}
+use Rattle.first_form.specs.FirstForm.{is_first_form, first_nested}
 use Rattle.c_rules.specs.declared.rule.Rule.{Rule}
 use Rattle.c_rules.specs.declared.rule.Count.{Count}
 use Rattle.c_rules.specs.Formed.{Formed}

@@ -4,7 +4,7 @@ use Rattle.std.specs.Prelude.{Ok, Err, codes, ◌&&◌, nat_le}
 use Rattle.c_tree.specs.declared.program.Mode.TheVariants.{Source}
 use Rattle.c_tree.specs.Lined as lined
 use Rattle.c_tree.specs.Lined.{bare_program}
-use Rattle.c_tree.specs.FirstForm.{is_first_form, first_nested}
+use Rattle.first_form.specs.FirstForm.{is_first_form, first_nested}
 use Rattle.c_rules.specs.Formed.{Formed, Judged}
 use Rattle.c_rules.specs.Counts.{limit}
 use Rattle.first_form.specs.Size.{has_first_text, first_tokens}
@@ -12,7 +12,7 @@ use Rattle.c_parser.specs.declared.error.ParseError.TheVariants as error
 use Rattle.c_parser.specs.Answer.{Answer}
 use Rattle.c_parser.specs.Parsed.{Parsed, IsAnswer, SpelledBy}
 use Rattle.c_parser.proofs.EachText as texts
-use Rattle.c_meaning.proofs.NotStuck.{never_stuck}
+use Rattle.first_form.proofs.NotStuck.{never_stuck}
 use Rattle.answers.specs.declared.status.Status.TheVariants.{Done}
 use Rattle.answers.specs.Answered.{Answered, written_answer, refused_answer, not_built_answer, limit_answer}
 use Rattle.answers.specs.Reasons.{line_of, reason_of, reason_of_rule, name_of_count}

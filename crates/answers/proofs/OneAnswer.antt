@@ -4,7 +4,7 @@ use Rattle.std.specs.Prelude.{Ok, Err, codes}
 use Rattle.c_tree.specs.declared.program.Mode.TheVariants.{Source}
 use Rattle.c_tree.specs.Lined as lined
 use Rattle.c_tree.specs.Lined.{bare_program}
-use Rattle.c_tree.specs.FirstForm.{first_nested}
+use Rattle.first_form.specs.FirstForm.{first_nested}
 use Rattle.c_rules.specs.declared.rule.Rule.{Rule}
 use Rattle.c_rules.specs.declared.rule.Count.{Count}
 use Rattle.c_rules.specs.Formed.{Formed, FirstBreak, KeepsRules, Judged}

@@ -14,10 +14,9 @@ use crate::answer::{Answer, limited, not_built, refused, written};
 use crate::reasons::{line_of, name_of_count, reason_of, reason_of_rule};
 use crate::status::Status;
 use c_check::{CheckError, check};
-use c_meaning::one_lock_at_a_time;
 use c_parser::{ParseError, parse};
 use c_tree::{Mode, Program};
-use first_form::{first_nested, has_first_text};
+use first_form::{first_nested, has_first_text, one_lock_at_a_time};
 use std::alloc::{AllocError, Global};
 
 /// What is answered of a text that spells no program within the limits. The one error is want of memory.

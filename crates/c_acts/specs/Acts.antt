@@ -1,10 +1,11 @@
 -- What a statement that holds no others breaks.
-use Rattle.std.specs.Prelude.{ℕ, ◌==◌, nat_le, max, Bool, true, false, not, ◌||◌, List, [], ◌∷◌, ◌++◌, bytes_eq, is_none, is_some, Some, None}
+use Rattle.std.specs.Prelude.{ℕ, ◌==◌, nat_le, nat_lt, max, Bool, true, false, not, ◌&&◌, ◌||◌, List, [], ◌∷◌, ◌++◌, length, bytes_eq, is_none, is_some, Some, None}
 use Rattle.std.specs.declared.option.Option.{Option}
+use Rattle.std.specs.List.{list_any}
 use Rattle.c_tree.specs.declared.program.Mode.{Mode}
 use Rattle.c_tree.specs.declared.program.Mode.TheVariants as mode
 use Rattle.c_tree.specs.Expressions.{Expr}
-use Rattle.c_tree.specs.Lined.{Stmt, Declare, Assign, Call, If, While, For, Return, Read, Print, Create, Join, InitMutex, InitCond, Lock, Unlock, Wait, Signal, Broadcast, Take, Give}
+use Rattle.c_tree.specs.Lined.{Stmt, Declare, Assign, Call, If, While, For, Return, Read, Print, Create, Join, InitMutex, InitCond, Lock, TryLock, Unlock, Wait, Signal, Broadcast, Take, Give}
 use Rattle.c_rules.specs.declared.rule.Rule.TheVariants.{Reserved, Twice, WrongCount, Recursion, CreateNotFixed, JoinNotFixed, ArgNotConstant, InitLate, IndexRange}
 use Rattle.c_rules.specs.Names.{is_reserved}
 use Rattle.c_rules.specs.Declarations.{Declaration}
@@ -44,6 +45,11 @@ is_source mode.Any = false
 abbrev pub monitor_breaks : Around → ℕ → ℕ → List Break
 monitor_breaks a line monitor = break_if (is_source a.mode) Reserved line ++ break_if (nat_le a.monitors monitor) IndexRange line
 
+-- a wait that takes a token of each of these monitors
+abbrev pub takes_breaks : Around → ℕ → List ℕ → List Break
+takes_breaks a line takes =
+    break_if (nat_lt 0 (length takes) && is_source a.mode) Reserved line ++ break_if (list_any (nat_le a.monitors) takes) IndexRange line
+
 -- a call of this function with so many arguments
 abbrev pub call_breaks : Around → (List ℕ → Bool) → ℕ → List ℕ → ℕ → List Break
 call_breaks a inside line function count =
@@ -75,8 +81,10 @@ act_breaks a inside unfixed late (Join line slot) = uses_breaks a inside line (o
 act_breaks a inside unfixed late (InitMutex line place) = uses_breaks a inside line (of_place OfMutex place) ++ break_if late InitLate line
 act_breaks a inside unfixed late (InitCond line place) = uses_breaks a inside line (of_place OfCondition place) ++ break_if late InitLate line
 act_breaks a inside unfixed late (Lock line place) = uses_breaks a inside line (of_place OfMutex place)
+act_breaks a inside unfixed late (TryLock line place taken busy) = []
 act_breaks a inside unfixed late (Unlock line place) = uses_breaks a inside line (of_place OfMutex place)
-act_breaks a inside unfixed late (Wait line cond mutex) = uses_breaks a inside line (of_place OfCondition cond ++ of_place OfMutex mutex)
+act_breaks a inside unfixed late (Wait line cond mutex takes) =
+    uses_breaks a inside line (of_place OfCondition cond ++ of_place OfMutex mutex) ++ takes_breaks a line takes
 act_breaks a inside unfixed late (Signal line cond) = uses_breaks a inside line (of_place OfCondition cond)
 act_breaks a inside unfixed late (Broadcast line cond) = uses_breaks a inside line (of_place OfCondition cond)
 act_breaks a inside unfixed late (Take line monitor) = monitor_breaks a line monitor

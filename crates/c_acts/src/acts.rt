@@ -1,6 +1,7 @@
 // Statements that hold no others.
 
-ghost use Rattle.std.specs.Prelude.{◌≡◌, ◌++◌, ◌∷◌, [], false, not, ◌==◌, option_map, is_some};
+ghost use Rattle.std.specs.Prelude.{◌≡◌, ◌++◌, ◌∷◌, [], false, not, ◌&&◌, ◌==◌, nat_le, nat_lt, length, option_map, is_some};
+ghost use Rattle.std.specs.List.{list_any};
 ghost use Rattle.c_tree.specs.Expressions.{expr_of, exprs_of, value_of, place_of, target_of};
 ghost use Rattle.c_tree.specs.Lined.{stmt_of};
 ghost use Rattle.c_rules.specs.declared.role.Role.TheVariants.{Value, OfMutex, OfCondition, OfThread, Start, Called};
@@ -19,7 +20,7 @@ use crate::uses::{
 };
 use c_names::{Scope, Thing, declaration_of, is_in_scope, is_reserved, meaning, number_of};
 use c_rules::{Role, Rule};
-use c_tree::{Act, Expr, Exprs, Mode, Name, Place, Stmt};
+use c_tree::{Act, Expr, Exprs, Mode, Name, Numbers, Place, Stmt};
 
 /// Looks at a local or a parameter that is declared where these names are in scope.
 pub fn check_local(at: &Inside, scope: &Scope, first: &mut Option<Break>, line: u32, name: &[u8])
@@ -207,8 +208,33 @@ fn check_init(
     note_if(first, late, Rule::InitLate, line);
 }
 
-/// Looks at a wait.
-fn check_wait(
+/// Whether a wait takes tokens, which programs of users have not.
+fn takes_some(mode: Mode, takes: &[u32]) -> bool
+    ensures { result ≡ (nat_lt 0 (length takes.now) && spec.is_source mode) }
+{
+    match mode {
+        Mode::Source => 0 < takes.len(),
+        Mode::Any => false,
+    }
+}
+
+/// Whether one of these monitors isn't there, where there are so many.
+fn is_beyond(monitors: usize, takes: &[u32]) -> bool
+    ensures { result ≡ list_any (nat_le monitors) takes.now }
+{
+    takes.iter().any(|monitor| monitors <= *monitor as usize)
+}
+
+/// Looks at the monitors of which a wait takes tokens.
+fn check_takes(at: &Inside, first: &mut Option<Break>, line: u32, takes: &[u32])
+    ensures { first.new ≡ noted_all first.old (spec.takes_breaks (around at.now) line takes.now) }
+{
+    note_if(first, takes_some(at.mode, takes), Rule::Reserved, line);
+    note_if(first, is_beyond(at.monitors, takes), Rule::IndexRange, line);
+}
+
+/// Looks at the places of a wait.
+fn check_places(
     at: &Inside,
     scope: &Scope,
     first: &mut Option<Break>,
@@ -220,6 +246,22 @@ fn check_wait(
 {
     check_place(at, scope, first, line, cond, Role::OfCondition);
     check_place(at, scope, first, line, mutex, Role::OfMutex);
+}
+
+/// Looks at a wait.
+fn check_wait(
+    at: &Inside,
+    scope: &Scope,
+    first: &mut Option<Break>,
+    line: u32,
+    cond: &Place,
+    mutex: &Place,
+    takes: &Numbers,
+)
+    ensures { first.new ≡ noted_all first.old (uses_breaks (around at.now) (in_scope scope.now) line (of_place OfCondition (place_of cond.now) ++ of_place OfMutex (place_of mutex.now)) ++ spec.takes_breaks (around at.now) line takes.now) }
+{
+    check_places(at, scope, first, line, cond, mutex);
+    check_takes(at, first, line, takes.as_slice());
 }
 
 /// Looks at a statement that neither declares nor holds others, and passes over those. A create or
@@ -236,7 +278,11 @@ pub fn check_act(
 {
     let line = s.line;
     match &s.act {
-        Act::Declare { .. } | Act::If { .. } | Act::While { .. } | Act::For { .. } => {}
+        Act::Declare { .. }
+        | Act::If { .. }
+        | Act::While { .. }
+        | Act::For { .. }
+        | Act::TryLock { .. } => {}
         Act::Assign { target, value } => check_assign(at, scope, first, line, target, value),
         Act::Call {
             target,
@@ -259,7 +305,7 @@ pub fn check_act(
         Act::Lock { place } | Act::Unlock { place } => {
             check_place(at, scope, first, line, place, Role::OfMutex);
         }
-        Act::Wait { cond, mutex } => check_wait(at, scope, first, line, cond, mutex),
+        Act::Wait { cond, mutex, takes } => check_wait(at, scope, first, line, cond, mutex, takes),
         Act::Signal { cond } | Act::Broadcast { cond } => {
             check_place(at, scope, first, line, cond, Role::OfCondition);
         }

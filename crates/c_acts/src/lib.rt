@@ -8,4 +8,4 @@ mod uses;
 
 pub use acts::{check_act, check_local};
 pub use first::{Break, note, note_if};
-pub use uses::{Inside, check_expr, check_value};
+pub use uses::{Inside, check_expr, check_place, check_value};

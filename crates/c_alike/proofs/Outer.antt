@@ -22,9 +22,9 @@ use Rattle.c_declarations.specs.declared.tree.Sort.TheVariants as sort
 use Rattle.c_declarations.specs.declared.tree.Head.{Head}
 use Rattle.c_declarations.specs.declared.tree.Begun.{Begun}
 use Rattle.c_declarations.specs.declared.tree.Begun.TheVariants as begun
-use Rattle.c_declarations.specs.Parsers.{line, behind_int, head_behind_void, objects}
+use Rattle.c_declarations.specs.Parsers.{line, behind_int, head_behind_void, objects, wait_declared}
 use Rattle.c_declarations.specs.Shown.{head_of}
-use Rattle.c_declarations.proofs.Same.{behind_int_same, behind_void_same, objects_same}
+use Rattle.c_declarations.proofs.Same.{behind_int_same, behind_void_same, objects_same, wait_declared_same}
 use Rattle.c_programs.specs.declared.token.Opening.{Opening}
 use Rattle.c_programs.specs.declared.token.Opening.TheVariants as o
 use Rattle.c_programs.specs.Words.{outer_opening}
@@ -91,7 +91,8 @@ module _ (text : List ℕ) (d : List Defined) (room : ℕ) where
   finished_same : (p : Tall Program) (x : Begun) → S (finished v room p x) (finished z room p x)
   finished_same p (begun.Cells all) = pure_alike (W text d) (with_ints p all)
   finished_same p (begun.Head h) = added_same p h
-  finished_same p (begun.Capacities c) = pure_alike (W text d) (with_capacities p c)
+  finished_same p (begun.Capacities c) =
+      bind_alike (W text d) (wait_declared v) (wait_declared z) (λ _. pure (with_capacities p c)) (λ _. pure (with_capacities p c)) (wait_declared_same v z (like text d) (Later text d) (as_long text d)) (λ _. pure_alike (W text d) (with_capacities p c))
 
   pub ints_same : (first : Bool) (l : ℕ) (p : Tall Program) → S (ints_added v int_holds room first l p) (ints_added z any room first l p)
   unfolding ints_added

@@ -11,8 +11,9 @@ use Rattle.c_grammar.specs.declared.words.FixedWord.{FixedWord}
 use Rattle.c_grammar.specs.declared.words.FixedWord.TheVariants as w
 use Rattle.c_grammar.specs.Items.{What, Item, spelling}
 use Rattle.c_grammar.specs.Levels.{Tall}
+use Rattle.c_grammar.specs.Simple.{SpellsNumber}
 use Rattle.c_grammar.specs.Declarations as d
-use Rattle.c_grammar.specs.Declarations.{SpellsNumber, Capacities, SpellsPrototype, SpellsCapacities, SpellsParameter, SpellsParameters, SpellsVoid, Head, SpellsHead, Defined, SpellsFunction}
+use Rattle.c_grammar.specs.Declarations.{Capacities, SpellsPrototype, SpellsWaitPrototype, SpellsCapacities, SpellsParameter, SpellsParameters, SpellsVoid, Head, SpellsHead, Defined, SpellsFunction}
 use Rattle.c_canonical.specs.Writable.{IsWritableSlot, IsWritableFunction}
 use Rattle.c_canonical.specs.Shaped.{Usable, ShapedSlot, ShapedSlots}
 use Rattle.c_canonical.specs.ShapedPrograms.{ShapedCapacities, ShapedHead, ShapedFunction}
@@ -20,7 +21,7 @@ use Rattle.c_canonical.proofs.Seen.{Seen}
 use Rattle.c_canonical.proofs.Usable.{name_known}
 use Rattle.c_canonical.proofs.UsableOutside.{function_name_known}
 use Rattle.c_canonical.proofs.SpelledShaped.{WritableSlots, KnownSlots, static_seen, body_shaped}
-use Rattle.c_canonical.proofs.KnownDeclarations.{all_nil, all_one, Knows, commas_known, some_parts, number_known}
+use Rattle.c_canonical.proofs.KnownLists.{all_nil, all_one, Knows, commas_known, some_parts, number_known}
 
 -- ---- capacities
 
@@ -34,18 +35,22 @@ pub record KnownCapacities (len : ℕ) (all : List ℕ) (rest : List Item) : Typ
 prototype_seen : {x : FixedWord} {ts rest : List Item} → SpellsPrototype x ts rest → Seen ts → Seen rest
 prototype_seen d.prototype s = s.1.1.1.1.1.1.1
 
+wait_seen : {ts rest : List Item} → SpellsWaitPrototype ts rest → Seen ts → Seen rest
+wait_seen d.absent s = s
+wait_seen d.present s = s.1.1.1.1.1.1.1.1.1.1.1.1.1.1
+
 any_number : (len : ℕ) (all : List ℕ) → 1 ≤ length all → ShapedCapacities len all
 any_number len [] f = absurd (omega (arith, f))
 any_number len (first ∷ more) f = tt
 
 pub capacities_known : {ts rest : List Item} {x : Capacities} → SpellsCapacities ts rest x → Seen ts → KnownCapacities x.len x.values rest
-capacities_known (d.capacities {len = len} {all = all} h t g) s =
+capacities_known (d.capacities {len = len} {all = all} h t g w) s =
     let v = commas_known (λ n. n ≤ largest) SpellsNumber number_known h s.1.1.1.1.1.1.1 in
     record {
       shaped = any_number len all (some_parts h);
       small = v.0;
       len_small = s.1.1.1.0;
-      after = prototype_seen g (prototype_seen t v.1.1.1);
+      after = wait_seen w (prototype_seen g (prototype_seen t v.1.1.1));
     }
 
 -- ---- heads

@@ -18,7 +18,8 @@ use Rattle.c_canonical.specs.Writable.{IsWritableProgram}
 use Rattle.c_canonical.specs.ShapedPrograms.{ShapedCapacities, ShapedProgram}
 use Rattle.c_canonical.proofs.Seen.{Seen}
 use Rattle.c_canonical.proofs.SpelledShaped.{slots_shaped}
-use Rattle.c_canonical.proofs.KnownDeclarations.{all_nil, all_one, FineCell, FineArray, FineObject, cells_known, objects_known}
+use Rattle.c_canonical.proofs.KnownLists.{all_nil, all_one}
+use Rattle.c_canonical.proofs.KnownDeclarations.{FineCell, FineArray, FineObject, cells_known, objects_known}
 use Rattle.c_canonical.proofs.KnownFunctions.{capacities_known, FineSlot, fine_slots, FineFunction, function_known}
 
 -- A program that is shaped and writable, by its parts.

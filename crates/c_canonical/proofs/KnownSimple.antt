@@ -1,5 +1,6 @@
 -- A simple statement that seen items spell is shaped and writable.
-use Rattle.std.proofs.Common.{◌≡◌, ℕ, List, [], ◌∷◌, ◌++◌, Option, Some, None, refl, sym, ◌∙◌, ap, subst, append_assoc, append-nil, arith}
+use Rattle.std.proofs.Common.{◌≡◌, ℕ, List, [], ◌∷◌, ◌++◌, ◌≤◌, Option, Some, None, refl, sym, ◌∙◌, ap, subst, append_assoc, append-nil, arith}
+use Rattle.c_lexer.specs.Words.{largest}
 use Rattle.c_layout.specs.Layout.{IsName}
 use Rattle.c_tree.specs.declared.expr.Op.{Op}
 use Rattle.c_tree.specs.declared.program.Kind.{Kind}
@@ -13,11 +14,12 @@ use Rattle.c_grammar.specs.Commas as c
 use Rattle.c_grammar.specs.Commas.{Commas}
 use Rattle.c_grammar.specs.Expressions.{indexed}
 use Rattle.c_grammar.specs.Simple as x
-use Rattle.c_grammar.specs.Simple.{SpellsStep, SpellsDeclarator, SpellsResult, SpellsSimple}
+use Rattle.c_grammar.specs.Simple.{SpellsStep, SpellsDeclarator, SpellsResult, SpellsNumber, SpellsSimple}
 use Rattle.c_canonical.specs.Writable.{IsWritable, IsWritableIfAny, IsWritableStmt, AreWritableStmts}
 use Rattle.c_canonical.specs.Shaped.{Usable, ShapedExpr, ShapedIfAny, ShapedResult, ShapedStep, ShapedStmt, ShapedStmts}
 use Rattle.c_canonical.proofs.Seen.{Seen}
 use Rattle.c_canonical.proofs.Usable.{name_known}
+use Rattle.c_canonical.proofs.KnownLists.{all_nil, commas_known, number_known}
 use Rattle.c_canonical.proofs.KnownExpressions.{expression_known, KnownPlace, place_known, address_known, list_known, call_known, argument_known}
 
 -- ---- lists of statements
@@ -155,7 +157,12 @@ simple_known (x.unlock h) s = let p = address_known h s.1.1 in record { shaped =
 simple_known (x.wait h i) s =
     let p = address_known h s.1.1 in
     let q = address_known i p.after.1 in
-    record { shaped = ((p.shaped, q.shaped), tt); writable = ((p.writable, q.writable), tt); after = q.after.1 }
+    record { shaped = ((p.shaped, q.shaped), tt); writable = ((p.writable, q.writable, all_nil (λ n. n ≤ largest)), tt); after = q.after.1 }
+simple_known (x.controlled_wait h i c) s =
+    let p = address_known h s.1.1 in
+    let q = address_known i p.after.1 in
+    let t = commas_known (λ n. n ≤ largest) SpellsNumber number_known c q.after.1 in
+    record { shaped = ((p.shaped, q.shaped), tt); writable = ((p.writable, q.writable, t.0), tt); after = t.1.1.1.1.1 }
 simple_known (x.signal h) s = let p = address_known h s.1.1 in record { shaped = (p.shaped, tt); writable = (p.writable, tt); after = p.after.1 }
 simple_known (x.broadcast h) s = let p = address_known h s.1.1 in record { shaped = (p.shaped, tt); writable = (p.writable, tt); after = p.after.1 }
 simple_known x.take s = record { shaped = (tt, tt); writable = (s.1.1.0, tt); after = s.1.1.1.1 }

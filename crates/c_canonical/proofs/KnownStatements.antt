@@ -1,18 +1,19 @@
 -- Statements, arms and lists of them that seen items spell are shaped and writable.
-use Rattle.std.proofs.Common.{Bool, List, arith}
+use Rattle.std.proofs.Common.{ℕ, Bool, List, [], ◌∷◌, arith}
+use Rattle.c_lexer.specs.declared.token.Sign.TheVariants as signs
 use Rattle.c_tree.specs.declared.program.Kind.{Kind}
-use Rattle.c_tree.specs.Expressions.{Expr}
+use Rattle.c_tree.specs.Expressions.{Expr, Place}
 use Rattle.c_tree.specs.Bare.{Stmts, Nil, Cons, Assign}
 use Rattle.c_tree.specs.Lined.{Stmt, listed, bare_stmts}
-use Rattle.c_grammar.specs.Items.{Item}
+use Rattle.c_grammar.specs.Items.{Item, sign}
 use Rattle.c_grammar.specs.Levels.{Tall}
 use Rattle.c_grammar.specs.Statements as st
-use Rattle.c_grammar.specs.Statements.{SpellsFirst, SpellsTest, SpellsLast, SpellsStatement, SpellsArm, SpellsList}
-use Rattle.c_canonical.specs.Writable.{AreWritableStmts}
-use Rattle.c_canonical.specs.Shaped.{ShapedStep, ShapedFirst}
+use Rattle.c_grammar.specs.Statements.{SpellsFirst, SpellsTest, SpellsLast, Choice, SpellsTry, SpellsChoice, choice, SpellsStatement, SpellsArm, SpellsList}
+use Rattle.c_canonical.specs.Writable.{IsWritable, IsWritablePlace, AreWritableStmts}
+use Rattle.c_canonical.specs.Shaped.{ShapedExpr, ShapedPlace, ShapedStep, ShapedFirst, ShapedStmts}
 use Rattle.c_canonical.proofs.Seen.{Seen}
 use Rattle.c_canonical.proofs.Usable.{name_known}
-use Rattle.c_canonical.proofs.KnownExpressions.{Known, expression_known}
+use Rattle.c_canonical.proofs.KnownExpressions.{Known, expression_known, KnownPlace, address_known}
 use Rattle.c_canonical.proofs.KnownSimple.{KnownStmts, shaped_append, writable_append, KnownStep, step_known, simple_known}
 
 -- ---- the parts of a `for`
@@ -44,21 +45,57 @@ last_known : {ts rest : List Item} {y : Tall (List Stmt)} → SpellsLast ts rest
 last_known st.none s = record { shaped = tt; writable = tt; after = s }
 last_known (st.step h) s = step_known h s
 
+-- ---- what an `if` tests
+
+abbrev ShapedChoice : Choice → Type 0
+ShapedChoice (st.Value e) = ShapedExpr e
+ShapedChoice (st.Taken p) = ShapedPlace p
+ShapedChoice (st.Busy p) = ShapedPlace p
+
+abbrev IsWritableChoice : Choice → Type 0
+IsWritableChoice (st.Value e) = IsWritable e
+IsWritableChoice (st.Taken p) = IsWritablePlace p
+IsWritableChoice (st.Busy p) = IsWritablePlace p
+
+-- What is known of it, and of the items after it.
+record KnownChoice (c : Choice) (rest : List Item) : Type 0 where
+  pub shaped : ShapedChoice c
+  pub writable : IsWritableChoice c
+  pub after : Seen rest
+
+try_known : {ts rest : List Item} {p : Tall Place} → SpellsTry ts rest p → Seen ts → KnownPlace p.tree rest
+try_known (st.try h) s = let p = address_known h s.1.1 in record { shaped = p.shaped; writable = p.writable; after = p.after.1 }
+
+choice_known : {ts rest : List Item} {c : Tall Choice} → SpellsChoice ts rest c → Seen ts → KnownChoice c.tree rest
+choice_known (st.value h) s = let e = expression_known h s in record { shaped = e.shaped; writable = e.writable; after = e.after }
+choice_known (st.tried h) s = let p = try_known h s in record { shaped = p.shaped; writable = p.writable; after = p.after }
+choice_known (st.not_tried h) s = let p = try_known h s.1 in record { shaped = p.shaped; writable = p.writable; after = p.after }
+choice_known (st.zero h) s = let p = try_known h s in record { shaped = p.shaped; writable = p.writable; after = p.after.1.1 }
+choice_known (st.other h) s = let p = try_known h s in record { shaped = p.shaped; writable = p.writable; after = p.after.1.1 }
+
+-- with the arms that the two cases of a trylock order
+chosen_known : (k : Kind) (line : ℕ) (c : Choice) (one two : List Stmt) (behind rest : List Item) → KnownChoice c behind
+    → ShapedStmts k (bare_stmts (listed one)) → AreWritableStmts (bare_stmts (listed one)) → ShapedStmts k (bare_stmts (listed two)) → AreWritableStmts (bare_stmts (listed two)) → Seen rest
+    → KnownStmts k (choice line c one two ∷ []) rest
+chosen_known k line (st.Value e) one two behind rest c f g p q s = record { shaped = ((c.shaped, f, p), tt); writable = ((c.writable, g, q), tt); after = s }
+chosen_known k line (st.Taken place) one two behind rest c f g p q s = record { shaped = ((c.shaped, f, p), tt); writable = ((c.writable, g, q), tt); after = s }
+chosen_known k line (st.Busy place) one two behind rest c f g p q s = record { shaped = ((c.shaped, p, f), tt); writable = ((c.writable, q, g), tt); after = s }
+
 -- ---- statements
 
 mutual
   pub statement_known : {k : Kind} {b : Bool} {ts rest : List Item} {y : Tall (List Stmt)} → SpellsStatement k b ts rest y → Seen ts → KnownStmts k y.tree rest
   statement_known (st.simple h) s = let v = simple_known h s in record { shaped = v.shaped; writable = v.writable; after = v.after.1 }
   statement_known st.empty s = record { shaped = tt; writable = tt; after = s.1 }
-  statement_known (st.if_only h i) s =
-      let e = expression_known h s.1.1 in
-      let one = arm_known i e.after.1 in
-      record { shaped = ((e.shaped, one.shaped, tt), tt); writable = ((e.writable, one.writable, tt), tt); after = one.after }
-  statement_known (st.if_else h i j) s =
-      let e = expression_known h s.1.1 in
-      let one = arm_known i e.after.1 in
+  statement_known {k = k} (st.if_only {l = l} {n = n} {mid = mid} {rest = rest} {c = c} {one = x} h i) s =
+      let t = choice_known h s.1.1 in
+      let one = arm_known i t.after.1 in
+      chosen_known k l c.tree x.tree [] (sign n signs.RightParenthesis ∷ mid) rest t one.shaped one.writable tt tt one.after
+  statement_known {k = k} (st.if_else {l = l} {n = n} {mid = mid} {rest = rest} {c = c} {one = x} {two = y} h i j) s =
+      let t = choice_known h s.1.1 in
+      let one = arm_known i t.after.1 in
       let two = arm_known j one.after.1 in
-      record { shaped = ((e.shaped, one.shaped, two.shaped), tt); writable = ((e.writable, one.writable, two.writable), tt); after = two.after }
+      chosen_known k l c.tree x.tree y.tree (sign n signs.RightParenthesis ∷ mid) rest t one.shaped one.writable two.shaped two.writable two.after
   statement_known (st.while h i) s =
       let e = expression_known h s.1.1 in
       let body = arm_known i e.after.1 in

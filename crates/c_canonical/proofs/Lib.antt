@@ -2,6 +2,7 @@ pub mod Seen
 pub mod Shown
 pub mod Usable
 pub mod KnownExpressions
+pub mod KnownLists
 pub mod KnownSimple
 pub mod KnownStatements
 pub mod SpelledShaped
@@ -15,6 +16,7 @@ pub mod SpelledStatements
 pub mod SpelledBodies
 pub mod Parts
 pub mod ExpressionParts
+pub mod ListParts
 pub mod StatementParts
 pub mod ProgramParts
 pub mod ShownLists

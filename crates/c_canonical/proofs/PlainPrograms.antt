@@ -6,9 +6,10 @@ use Rattle.c_layout.specs.Layout.{Item as Part, word, sign, space, newline}
 use Rattle.c_tree.specs.declared.program.Kind.{Kind}
 use Rattle.c_tree.specs.declared.program.Kind.TheVariants as k
 use Rattle.c_tree.specs.Bare.{Cell, Array, Object, Slot, Function, Program}
-use Rattle.c_canonical.specs.Expressions.{separated}
+use Rattle.c_canonical.specs.Expressions.{separated, numeral}
 use Rattle.c_canonical.specs.Statements.{statements}
-use Rattle.c_canonical.specs.Programs.{value, braced, equals, length_of, declared, cell, values, array, initialisers, readied, object, mutex, condition, slot, monitor_call, capacity, monitors, result_type, parameter, parameters, function_head, function, declarations, layout_of}
+use Rattle.c_canonical.specs.Waits.{some_waits}
+use Rattle.c_canonical.specs.Programs.{value, braced, equals, length_of, declared, cell, values, array, initialisers, readied, object, mutex, condition, slot, monitor_call, wait_call, monitors, result_type, parameter, parameters, function_head, function, declarations, layout_of}
 use Rattle.c_canonical.proofs.Shown.{Plain, plain_append}
 use Rattle.c_canonical.proofs.PlainExpressions.{before_sign, EachPlain, mapped_plain, separated_plain}
 use Rattle.c_canonical.proofs.PlainStatements.{statements_plain}
@@ -73,14 +74,19 @@ slot_plain t = declared_plain (codes "pthread_t") (word t.name ∷ length_of t.l
 call_plain : (name : List ℕ) → Plain (monitor_call name)
 call_plain name = (refl, (refl, (refl, (refl, (refl, (refl, (refl, tt)))))))
 
-monitors_plain : (len : ℕ) (all : List ℕ) → Plain (monitors len all)
-monitors_plain len [] = tt
-monitors_plain len (first ∷ more) =
-    let given = equals (braced (map capacity (first ∷ more))) in
+wait_call_plain : (waits : Bool) → Plain (wait_call waits)
+wait_call_plain false = tt
+wait_call_plain true = (refl, (refl, (refl, (refl, (refl, (refl, (refl, (refl, (refl, (refl, (refl, (refl, (refl, (refl, tt))))))))))))))
+
+monitors_plain : (len : ℕ) (all : List ℕ) (waits : Bool) → Plain (monitors len all waits)
+monitors_plain len [] waits = tt
+monitors_plain len (first ∷ more) waits =
+    let given = equals (braced (map numeral (first ∷ more))) in
     let items = word (codes "gd_cap") ∷ (length_of (Some len) ++ given) in
-    plain_append (declared (codes "int") items) (monitor_call (codes "gd_take") ++ monitor_call (codes "gd_give"))
-    (declared_plain (codes "int") items (named_plain (codes "gd_cap") (Some len) given (refl, braced_plain (map capacity (first ∷ more)) (mapped_plain capacity (λ n. (refl, tt)) (first ∷ more)))))
-    (plain_append (monitor_call (codes "gd_take")) (monitor_call (codes "gd_give")) (call_plain (codes "gd_take")) (call_plain (codes "gd_give")))
+    plain_append (declared (codes "int") items) (monitor_call (codes "gd_take") ++ (monitor_call (codes "gd_give") ++ wait_call waits))
+    (declared_plain (codes "int") items (named_plain (codes "gd_cap") (Some len) given (refl, braced_plain (map numeral (first ∷ more)) (mapped_plain numeral (λ n. (refl, tt)) (first ∷ more)))))
+    (plain_append (monitor_call (codes "gd_take")) (monitor_call (codes "gd_give") ++ wait_call waits) (call_plain (codes "gd_take"))
+    (plain_append (monitor_call (codes "gd_give")) (wait_call waits) (call_plain (codes "gd_give")) (wait_call_plain waits)))
 
 -- ---- functions
 
@@ -120,7 +126,7 @@ declarations_plain p =
     let mutexes = flat_map mutex p.mutexes in
     let arrays = flat_map array p.arrays in
     let threads = flat_map slot p.threads in
-    plain_append (monitors p.cap_len p.monitors) (flat_map cell p.ints ++ (arrays ++ (mutexes ++ (conds ++ threads)))) (monitors_plain p.cap_len p.monitors)
+    plain_append (monitors p.cap_len p.monitors (some_waits p.functions)) (flat_map cell p.ints ++ (arrays ++ (mutexes ++ (conds ++ threads)))) (monitors_plain p.cap_len p.monitors (some_waits p.functions))
     (plain_append (flat_map cell p.ints) (arrays ++ (mutexes ++ (conds ++ threads))) (lines_plain cell cell_plain p.ints)
     (plain_append arrays (mutexes ++ (conds ++ threads)) (lines_plain array array_plain p.arrays)
     (plain_append mutexes (conds ++ threads) (lines_plain mutex (object_plain (codes "pthread_mutex_t") (codes "PTHREAD_MUTEX_INITIALIZER")) p.mutexes)

@@ -1,15 +1,15 @@
 -- No token of the canonical layout of a statement is a definition.
-use Rattle.std.proofs.Common.{ℕ, Bool, true, false, if◌then◌else◌, List, [], ◌∷◌, ◌++◌, codes, Option, Some, None, refl}
+use Rattle.std.proofs.Common.{ℕ, Bool, true, false, if◌then◌else◌, List, [], ◌∷◌, ◌++◌, codes, map, Option, Some, None, refl}
 use Rattle.c_lexer.specs.declared.token.Sign.TheVariants as s
 use Rattle.c_layout.specs.Layout.{Item as Part, word, number, quoted, sign, gap, space, newline}
 use Rattle.c_tree.specs.declared.program.Kind.{Kind}
 use Rattle.c_tree.specs.declared.program.Kind.TheVariants as k
 use Rattle.c_tree.specs.Expressions.{Expr, Place}
-use Rattle.c_tree.specs.Bare.{Stmt, Stmts, Nil, Cons, Declare, Assign, Call, If, While, For, Return, Read, Print, Create, Join, InitMutex, InitCond, Lock, Unlock, Wait, Signal, Broadcast, Take, Give}
-use Rattle.c_canonical.specs.Expressions.{is_binary, wrapped, expression, expressions, place, followed, separated}
-use Rattle.c_canonical.specs.Statements.{called, address, with_null, assigned, initial, argument_cast, returned, creation, simple, part, deeper, is_chain, block, headed, line, statement, otherwise, statements}
+use Rattle.c_tree.specs.Bare.{Stmt, Stmts, Nil, Cons, Declare, Assign, Call, If, While, For, Return, Read, Print, Create, Join, InitMutex, InitCond, Lock, TryLock, Unlock, Wait, Signal, Broadcast, Take, Give}
+use Rattle.c_canonical.specs.Expressions.{is_binary, wrapped, expression, expressions, place, followed, separated, numeral}
+use Rattle.c_canonical.specs.Statements.{called, address, with_null, assigned, initial, argument_cast, returned, creation, taking, waited, simple, part, deeper, is_chain, tried, block, headed, line, statement, otherwise, statements}
 use Rattle.c_canonical.proofs.Shown.{Plain, plain_append}
-use Rattle.c_canonical.proofs.PlainExpressions.{before_sign, wrapped_plain, expression_plain, place_plain, expressions_plain, followed_plain, separated_plain}
+use Rattle.c_canonical.proofs.PlainExpressions.{before_sign, wrapped_plain, expression_plain, place_plain, mapped_plain, expressions_plain, followed_plain, separated_plain}
 
 -- ---- statements of one line
 
@@ -46,8 +46,19 @@ creation_plain slot function arg =
 with_null_plain : (items : List Part) → Plain items → Plain (items ++ with_null)
 with_null_plain items p = plain_append items with_null p null_plain
 
-waiting_plain : (cond mutex : Place) → Plain (address cond ++ sign s.Comma ∷ space ∷ address mutex)
-waiting_plain cond mutex = plain_append (address cond) (sign s.Comma ∷ space ∷ address mutex) (address_plain cond) (refl, address_plain mutex)
+taking_plain : (monitors : List ℕ) → Plain (taking monitors)
+taking_plain monitors =
+    plain_append (followed (map numeral monitors)) (sign s.Comma ∷ space ∷ sign s.Minus ∷ number 1 ∷ [])
+    (followed_plain (map numeral monitors) (mapped_plain numeral (λ k. (refl, tt)) monitors)) (refl, (refl, (refl, tt)))
+
+waited_plain : (cond mutex : Place) (takes : List ℕ) → Plain (waited cond mutex takes)
+waited_plain cond mutex [] =
+    called_plain (codes "pthread_cond_wait") (address cond ++ sign s.Comma ∷ space ∷ address mutex)
+    (plain_append (address cond) (sign s.Comma ∷ space ∷ address mutex) (address_plain cond) (refl, address_plain mutex))
+waited_plain cond mutex (k ∷ ks) =
+    let behind = address mutex ++ taking (k ∷ ks) in
+    called_plain (codes "gd_cond_wait") (address cond ++ sign s.Comma ∷ space ∷ behind)
+    (plain_append (address cond) (sign s.Comma ∷ space ∷ behind) (address_plain cond) (refl, plain_append (address mutex) (taking (k ∷ ks)) (address_plain mutex) (taking_plain (k ∷ ks))))
 
 call_plain : (target : Option Place) (function : List ℕ) (items : List Part) → Plain items → Plain (assigned target ++ called function items)
 call_plain target function items p = plain_append (assigned target) (called function items) (assigned_plain target) (called_plain function items p)
@@ -67,8 +78,9 @@ simple_plain kind (Join slot) = called_plain (codes "pthread_join") (place slot 
 simple_plain kind (InitMutex p) = called_plain (codes "pthread_mutex_init") (address p ++ with_null) (with_null_plain (address p) (address_plain p))
 simple_plain kind (InitCond p) = called_plain (codes "pthread_cond_init") (address p ++ with_null) (with_null_plain (address p) (address_plain p))
 simple_plain kind (Lock p) = called_plain (codes "pthread_mutex_lock") (address p) (address_plain p)
+simple_plain kind (TryLock p taken busy) = tt
 simple_plain kind (Unlock p) = called_plain (codes "pthread_mutex_unlock") (address p) (address_plain p)
-simple_plain kind (Wait cond mutex) = called_plain (codes "pthread_cond_wait") (address cond ++ sign s.Comma ∷ space ∷ address mutex) (waiting_plain cond mutex)
+simple_plain kind (Wait cond mutex takes) = waited_plain cond mutex takes
 simple_plain kind (Signal cond) = called_plain (codes "pthread_cond_signal") (address cond) (address_plain cond)
 simple_plain kind (Broadcast cond) = called_plain (codes "pthread_cond_broadcast") (address cond) (address_plain cond)
 simple_plain kind (Take monitor) = called_plain (codes "gd_take") (number monitor ∷ []) (refl, tt)
@@ -101,12 +113,21 @@ chosen_plain : (b : Bool) (chain inside : List Part) → Plain chain → Plain i
 chosen_plain true chain inside p q = (refl, p)
 chosen_plain false chain inside p q = (refl, q)
 
+tried_plain : (p : Place) → Plain (tried p)
+tried_plain p =
+    plain_append (called (codes "pthread_mutex_trylock") (address p)) (space ∷ sign s.Equal ∷ space ∷ number 0 ∷ [])
+    (called_plain (codes "pthread_mutex_trylock") (address p) (address_plain p)) (refl, (refl, tt))
+
 mutual
   statement_plain : (kind : Kind) (margin : List ℕ) (x : Stmt) → Plain (statement kind margin x)
   statement_plain kind margin (If test then_arm else_arm) =
       let arm = statements kind (deeper margin) then_arm in
       plain_append (headed (codes "if") (expression test)) (block margin arm ++ otherwise kind margin else_arm) (headed_plain (codes "if") (expression test) (expression_plain test))
       (plain_append (block margin arm) (otherwise kind margin else_arm) (block_plain margin arm (statements_plain kind (deeper margin) then_arm)) (otherwise_plain kind margin else_arm))
+  statement_plain kind margin (TryLock p taken busy) =
+      let arm = statements kind (deeper margin) taken in
+      plain_append (headed (codes "if") (tried p)) (block margin arm ++ otherwise kind margin busy) (headed_plain (codes "if") (tried p) (tried_plain p))
+      (plain_append (block margin arm) (otherwise kind margin busy) (block_plain margin arm (statements_plain kind (deeper margin) taken)) (otherwise_plain kind margin busy))
   statement_plain kind margin (While test body) =
       let arm = statements kind (deeper margin) body in
       plain_append (headed (codes "while") (expression test)) (block margin arm) (headed_plain (codes "while") (expression test) (expression_plain test))

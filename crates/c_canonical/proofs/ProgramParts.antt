@@ -1,8 +1,7 @@
 -- The layouts of declarations, functions and programs are parted.
-use Rattle.std.proofs.Common.{ℕ, zero, suc, ℤ, pos, negsuc, Bool, true, false, List, [], ◌∷◌, ◌++◌, codes, map, replicate, refl, sym, subst, arith, append_assoc, Option, Some, None}
+use Rattle.std.proofs.Common.{ℕ, zero, suc, ℤ, pos, negsuc, Bool, true, false, List, [], ◌∷◌, ◌++◌, codes, map, replicate, refl, sym, subst, append_assoc, Option, Some, None}
 use Rattle.std.specs.Prelude.{◌≤◌, All}
 use Rattle.std.specs.List.{flat_map}
-use Rattle.std.specs.Fmt.{decimal}
 use Rattle.c_lexer.specs.declared.token.Sign.TheVariants as s
 use Rattle.c_lexer.specs.Classes.{is_word}
 use Rattle.c_lexer.specs.Words.{largest}
@@ -14,40 +13,17 @@ use Rattle.c_layout.proofs.Fitting.{include_fits}
 use Rattle.c_tree.specs.declared.program.Kind.{Kind}
 use Rattle.c_tree.specs.declared.program.Kind.TheVariants as k
 use Rattle.c_tree.specs.Bare.{Cell, Array, Object, Slot, Function, Program}
-use Rattle.c_canonical.specs.Expressions.{followed, separated}
+use Rattle.c_canonical.specs.Expressions.{followed, separated, numeral}
 use Rattle.c_canonical.specs.Statements.{statements}
-use Rattle.c_canonical.specs.Programs.{value, braced, equals, length_of, declared, cell, values, array, initialisers, readied, object, mutex, condition, slot, monitor_call, capacity, monitors, result_type, parameter, parameters, function_head, function, declarations, layout_of}
+use Rattle.c_canonical.specs.Waits.{some_waits}
+use Rattle.c_canonical.specs.Programs.{value, braced, equals, length_of, declared, cell, values, array, initialisers, readied, object, mutex, condition, slot, monitor_call, wait_call, monitors, result_type, parameter, parameters, function_head, function, declarations, layout_of}
 use Rattle.c_canonical.specs.Writable.{IsWritableValue, IsWritableLength, IsWritableCell, IsWritableArray, IsWritableObject, IsWritableSlot, IsWritableFunction, IsWritableProgram}
-use Rattle.c_canonical.proofs.Parts.{Joins, joins_append, nothing, word_then, number_then, sign_then, free_then, gap_then, Quiet, quiet_stops, star_before, minus_before}
-use Rattle.c_canonical.proofs.ExpressionParts.{name_stops, number_stops}
+use Rattle.c_canonical.proofs.Parts.{Joins, joins_append, nothing, word_then, number_then, sign_then, free_then, gap_then, Quiet, quiet_stops, star_before}
+use Rattle.c_canonical.proofs.ExpressionParts.{name_stops}
+use Rattle.c_canonical.proofs.ListParts.{all_head, all_tail, Each, separated_joins, numeral_joins, minus_joins}
 use Rattle.c_canonical.proofs.StatementParts.{statements_join}
 
 -- ---- lists
-
-all_head : {X : Type 0} (P : X → Type 0) (x : X) (xs : List X) → All P (x ∷ xs) → P x
-all_head P x xs h = h 0 x (omega arith)
-
-all_tail : {X : Type 0} (P : X → Type 0) (x : X) (xs : List X) → All P (x ∷ xs) → All P xs
-all_tail P x xs h = λ k d l. h (suc k) d (omega arith)
-
--- Each item of a list joins before what doesn't go on a word.
-abbrev Each : {X : Type 0} → (X → Type 0) → (X → List Item) → Type 0
-Each {X} P item = (x : X) (rest : List ℕ) → P x → Quiet rest → Joins (item x) rest
-
-followed_quiet : {X : Type 0} (item : X → List Item) (xs : List X) (rest : List ℕ) → Quiet rest → Quiet (text (followed (map item xs)) ++ rest)
-followed_quiet item [] rest q = q
-followed_quiet item (x ∷ xs) rest q = refl
-
-followed_joins : {X : Type 0} (P : X → Type 0) (item : X → List Item) → Each P item → (xs : List X) (rest : List ℕ) → All P xs → Quiet rest → Joins (followed (map item xs)) rest
-followed_joins P item each [] rest f q = nothing rest
-followed_joins P item each (x ∷ xs) rest f q =
-    free_then s.Comma (λ c. refl) _ rest (gap_then (codes " ") _ rest refl
-    (joins_append (item x) (followed (map item xs)) rest (each x _ (all_head P x xs f) (followed_quiet item xs rest q)) (followed_joins P item each xs rest (all_tail P x xs f) q)))
-
-separated_joins : {X : Type 0} (P : X → Type 0) (item : X → List Item) → Each P item → (xs : List X) (rest : List ℕ) → All P xs → Quiet rest → Joins (separated (map item xs)) rest
-separated_joins P item each [] rest f q = nothing rest
-separated_joins P item each (x ∷ xs) rest f q =
-    joins_append (item x) (followed (map item xs)) rest (each x _ (all_head P x xs f) (followed_quiet item xs rest q)) (followed_joins P item each xs rest (all_tail P x xs f) q)
 
 lines_join : {X : Type 0} (P : X → Type 0) (lines : X → List Item) → ((x : X) (rest : List ℕ) → P x → Joins (lines x) rest) → (xs : List X) (rest : List ℕ) → All P xs → Joins (flat_map lines xs) rest
 lines_join P lines each [] rest f = nothing rest
@@ -66,7 +42,7 @@ declared_joins kind items rest n h =
 
 value_joins : (v : ℤ) (rest : List ℕ) → IsWritableValue v → Quiet rest → Joins (value v) rest
 value_joins (pos n) rest f q = number_then n [] rest f (quiet_stops rest q) (nothing rest)
-value_joins (negsuc n) rest f q = sign_then s.Minus _ rest (subst (Stops (goes_on s.Minus)) (sym (append_assoc (decimal (suc n)) [] rest)) (number_stops s.Minus (suc n) ([] ++ rest) minus_before f)) (number_then (suc n) [] rest f (quiet_stops rest q) (nothing rest))
+value_joins (negsuc n) rest f q = minus_joins (suc n) rest f q
 
 braced_joins : {X : Type 0} (P : X → Type 0) (item : X → List Item) → Each P item → (xs : List X) (rest : List ℕ) → All P xs → Joins (braced (map item xs)) rest
 braced_joins P item each xs rest f =
@@ -169,19 +145,28 @@ monitor_call_joins name rest n = declared_joins (codes "void") _ rest refl
     (λ r. word_then name _ (59 ∷ r) n refl (free_then s.LeftParenthesis (λ c. refl) _ (59 ∷ r) (word_then (codes "int") _ (59 ∷ r) refl refl (gap_then (codes " ") _ (59 ∷ r) refl
     (word_then (codes "k") _ (59 ∷ r) refl refl (free_then s.RightParenthesis (λ c. refl) [] (59 ∷ r) (nothing (59 ∷ r))))))))
 
-capacity_joins : (n : ℕ) (rest : List ℕ) → n ≤ largest → Quiet rest → Joins (capacity n) rest
-capacity_joins n rest f q = number_then n [] rest f (quiet_stops rest q) (nothing rest)
-
-monitors_join : (len : ℕ) (caps : List ℕ) (rest : List ℕ) → len ≤ largest → All (λ n. n ≤ largest) caps → Joins (monitors len caps) rest
+wait_call_joins : (waits : Bool) (rest : List ℕ) → Joins (wait_call waits) rest
 unfolding is_word
-monitors_join len [] rest l f = nothing rest
-monitors_join len (cap ∷ caps) rest l f =
-    let given = equals (braced (map capacity (cap ∷ caps))) in
-    let calls = monitor_call (codes "gd_take") ++ monitor_call (codes "gd_give") in
+wait_call_joins false rest = nothing rest
+wait_call_joins true rest = declared_joins (codes "void") _ rest refl
+    (λ r. word_then (codes "gd_cond_wait") _ (59 ∷ r) refl refl (free_then s.LeftParenthesis (λ c. refl) _ (59 ∷ r)
+    (word_then (codes "pthread_cond_t") _ (59 ∷ r) refl refl (gap_then (codes " ") _ (59 ∷ r) refl (sign_then s.Star _ (59 ∷ r) refl
+    (word_then (codes "c") _ (59 ∷ r) refl refl (free_then s.Comma (λ c. refl) _ (59 ∷ r) (gap_then (codes " ") _ (59 ∷ r) refl
+    (word_then (codes "pthread_mutex_t") _ (59 ∷ r) refl refl (gap_then (codes " ") _ (59 ∷ r) refl (sign_then s.Star _ (59 ∷ r) refl
+    (word_then (codes "m") _ (59 ∷ r) refl refl (free_then s.Comma (λ c. refl) _ (59 ∷ r) (gap_then (codes " ") _ (59 ∷ r) refl
+    (free_then s.Ellipsis (λ c. refl) _ (59 ∷ r) (free_then s.RightParenthesis (λ c. refl) [] (59 ∷ r) (nothing (59 ∷ r))))))))))))))))))
+
+monitors_join : (len : ℕ) (caps : List ℕ) (waits : Bool) (rest : List ℕ) → len ≤ largest → All (λ n. n ≤ largest) caps → Joins (monitors len caps waits) rest
+unfolding is_word
+monitors_join len [] waits rest l f = nothing rest
+monitors_join len (cap ∷ caps) waits rest l f =
+    let given = equals (braced (map numeral (cap ∷ caps))) in
+    let calls = monitor_call (codes "gd_take") ++ (monitor_call (codes "gd_give") ++ wait_call waits) in
     joins_append (declared (codes "int") (word (codes "gd_cap") ∷ (length_of (Some len) ++ given))) calls rest
     (declared_joins (codes "int") (word (codes "gd_cap") ∷ (length_of (Some len) ++ given)) _ refl
-    (λ r. named_joins (codes "gd_cap") (Some len) given (59 ∷ r) refl l refl (equals_join _ (59 ∷ r) (braced_joins (λ n. n ≤ largest) capacity capacity_joins (cap ∷ caps) (59 ∷ r) f))))
-    (joins_append (monitor_call (codes "gd_take")) (monitor_call (codes "gd_give")) rest (monitor_call_joins (codes "gd_take") _ refl) (monitor_call_joins (codes "gd_give") rest refl))
+    (λ r. named_joins (codes "gd_cap") (Some len) given (59 ∷ r) refl l refl (equals_join _ (59 ∷ r) (braced_joins (λ n. n ≤ largest) numeral numeral_joins (cap ∷ caps) (59 ∷ r) f))))
+    (joins_append (monitor_call (codes "gd_take")) (monitor_call (codes "gd_give") ++ wait_call waits) rest (monitor_call_joins (codes "gd_take") _ refl)
+    (joins_append (monitor_call (codes "gd_give")) (wait_call waits) rest (monitor_call_joins (codes "gd_give") _ refl) (wait_call_joins waits rest)))
 
 -- ---- functions
 
@@ -229,7 +214,7 @@ function_joins f rest w =
 
 declarations_join : (p : Program) (rest : List ℕ) → IsWritableProgram p → Joins (declarations p) rest
 declarations_join p rest w =
-    joins_append (monitors p.cap_len p.monitors) _ rest (monitors_join p.cap_len p.monitors _ w.cap_len w.monitors)
+    joins_append (monitors p.cap_len p.monitors (some_waits p.functions)) _ rest (monitors_join p.cap_len p.monitors (some_waits p.functions) _ w.cap_len w.monitors)
     (joins_append (flat_map cell p.ints) _ rest (lines_join IsWritableCell cell cell_joins p.ints _ w.ints)
     (joins_append (flat_map array p.arrays) _ rest (lines_join IsWritableArray array array_joins p.arrays _ w.arrays)
     (joins_append (flat_map mutex p.mutexes) _ rest (lines_join IsWritableObject mutex mutex_joins p.mutexes _ w.mutexes)

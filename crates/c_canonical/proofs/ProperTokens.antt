@@ -11,7 +11,7 @@ use Rattle.c_lexer.specs.declared.token.Sign.{Sign}
 use Rattle.c_lexer.specs.Classes.{is_letter, is_digit, is_word, is_blank}
 use Rattle.c_lexer.specs.Pieces.{Kind, Piece, Found, up_to, alone}
 use Rattle.c_lexer.specs.Words.{name_of, number_of, is_plain, decimal, largest}
-use Rattle.c_lexer.specs.Signs.{single, double, sign_of, one_byte, two_bytes}
+use Rattle.c_lexer.specs.Signs.{single, double, triple, sign_of, one_byte, several_bytes}
 use Rattle.c_lexer.specs.Readings.{after_close, closed, block_comment, line_comment, is_pair, is_single, after_quote, quoted, after_mark}
 use Rattle.c_lexer.specs.Directives.{after_bytes, after_gap, word, after_word, is_name as is_defined_name, Definition, defined_number, defined_name, definition, defined, definition_line, include_line, after_include, tail, directive}
 use Rattle.c_lexer.specs.Lexeme.{lexeme, slash_of}
@@ -74,10 +74,15 @@ sign_proper b [] = by (single b)
     by (Some sign) = tt
 sign_proper b (c ∷ []) = by (double b c)
   where
-    by : (o : Option Sign) → ProperIf (b ∷ c ∷ []) (two_bytes o)
+    by : (o : Option Sign) → ProperIf (b ∷ c ∷ []) (several_bytes o)
     by None = tt
     by (Some sign) = tt
-sign_proper b (c ∷ d ∷ w) = tt
+sign_proper b (c ∷ d ∷ []) = by (triple b c d)
+  where
+    by : (o : Option Sign) → ProperIf (b ∷ c ∷ d ∷ []) (several_bytes o)
+    by None = tt
+    by (Some sign) = tt
+sign_proper b (c ∷ d ∷ e ∷ w) = tt
 
 comment_proper : (w : List ℕ) (o : Option (List ℕ)) → ProperIf w (Some (closed o).piece)
 comment_proper w None = tt

@@ -5,7 +5,9 @@ use Rattle.c_lexer.specs.declared.token.Sign.{Sign}
 use Rattle.c_layout.specs.Layout as layout
 use Rattle.c_grammar.specs.Items.{Item, sign}
 use Rattle.c_grammar.specs.Commas.{Commas, one, more}
-use Rattle.c_canonical.specs.Expressions.{followed, separated}
+use Rattle.c_grammar.specs.Simple as x
+use Rattle.c_grammar.specs.Simple.{SpellsNumber}
+use Rattle.c_canonical.specs.Expressions.{followed, separated, numeral}
 use Rattle.c_canonical.specs.Shown.{Shows, nothing, shown, unseen}
 use Rattle.c_canonical.proofs.Shown.{Halves, shows_append}
 use Rattle.std.proofs.lemmas.List.Elements.{All-head, All-tail}
@@ -56,3 +58,9 @@ pub separated_spelled : {X : Type 0} (item : X → List layout.Item) (P : X → 
 separated_spelled item P Part each x xs f h =
     let p = shows_append (item x) (followed (map item xs)) _ _ h in
     followed_spelled item P Part each xs (x ∷ []) (All-tail P x xs f) (one (each x _ _ (All-head P x xs f) p.first)) p.second
+
+pub numeral_spelled : (n : ℕ) (ts rest : List Item) → Unit {0} → Shows (numeral n) ts rest → SpellsNumber ts rest n
+numeral_spelled n _ _ f (shown nothing) = x.number
+
+pub numerals_spelled : (n : ℕ) (ns : List ℕ) {ts rest : List Item} → Shows (separated (map numeral (n ∷ ns))) ts rest → Commas SpellsNumber ts rest (n ∷ ns)
+numerals_spelled n ns h = separated_spelled numeral (λ k. Unit {0}) SpellsNumber numeral_spelled n ns (λ k d l. tt) h

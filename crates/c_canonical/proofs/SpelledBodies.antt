@@ -7,20 +7,20 @@ use Rattle.c_layout.specs.Layout.{Item as Part}
 use Rattle.c_tree.specs.declared.program.Kind.{Kind}
 use Rattle.c_tree.specs.Lined as lined
 use Rattle.c_tree.specs.Lined.{listed, bare_stmt, bare_stmts}
-use Rattle.c_tree.specs.Bare.{Stmt, Stmts, Nil, Cons, Declare, Assign, Call, If, While, For, Return, Read, Print, Create, Join, InitMutex, InitCond, Lock, Unlock, Wait, Signal, Broadcast, Take, Give}
+use Rattle.c_tree.specs.Bare.{Stmt, Stmts, Nil, Cons, Declare, Assign, Call, If, While, For, Return, Read, Print, Create, Join, InitMutex, InitCond, Lock, TryLock, Unlock, Wait, Signal, Broadcast, Take, Give}
 use Rattle.c_grammar.specs.declared.words.FixedWord.TheVariants as w
 use Rattle.c_grammar.specs.Items.{What, Item, at, sign}
 use Rattle.c_grammar.specs.Levels.{tall}
 use Rattle.c_grammar.specs.Statements as st
 use Rattle.c_grammar.specs.Statements.{SpellsBody}
 use Rattle.c_canonical.specs.Expressions.{expression}
-use Rattle.c_canonical.specs.Statements.{deeper, is_if, is_empty, is_chain, block, line, statement, otherwise, statements}
+use Rattle.c_canonical.specs.Statements.{deeper, tried, is_if, is_empty, is_chain, block, line, statement, otherwise, statements}
 use Rattle.c_canonical.specs.Shown.{Shows, nothing, shown, unseen}
 use Rattle.c_canonical.specs.Shaped.{ShapedStmt, ShapedStmts}
 use Rattle.c_canonical.proofs.Shown.{shows_append}
 use Rattle.c_canonical.proofs.SpelledExpressions.{whole_spelled}
 use Rattle.c_canonical.proofs.Rows.{end, step, row_body}
-use Rattle.c_canonical.proofs.SpelledStatements.{StatementAs, RowAs, ArmAs, in_head, block_spelled, Otherwise, none, arm, if_spelled, while_spelled, for_spelled, simple_line}
+use Rattle.c_canonical.proofs.SpelledStatements.{StatementAs, RowAs, ArmAs, in_head, block_spelled, Otherwise, none, arm, tried_spelled, if_spelled, try_lock_spelled, while_spelled, for_spelled, simple_line}
 
 -- ---- lines
 
@@ -80,6 +80,14 @@ mutual
       if_spelled kind test one two l m n mid next p.mid rest (whole_spelled test mid (sign n s.RightParenthesis ∷ next) f.0 i)
       (block_spelled kind margin (statements kind (deeper margin) one) one next p.mid (λ ts rest k. row_spelled kind (deeper margin) one ts rest f.1 k) p.first)
       (otherwise_spelled kind margin two p.mid rest f.2 p.second))
+  statement_spelled kind margin (TryLock p taken busy) ts rest f h =
+      in_head (λ (all : List Item). StatementAs kind (TryLock p taken busy) all rest) (codes "if") (tried p)
+      (block margin (statements kind (deeper margin) taken) ++ otherwise kind margin busy) ts rest h
+      (λ l m n mid next i j.
+      let q = shows_append (block margin (statements kind (deeper margin) taken)) (otherwise kind margin busy) next rest j in
+      try_lock_spelled kind p taken busy l m n mid next q.mid rest (tried_spelled p mid (sign n s.RightParenthesis ∷ next) f.0 i)
+      (block_spelled kind margin (statements kind (deeper margin) taken) taken next q.mid (λ ts rest k. row_spelled kind (deeper margin) taken ts rest f.1 k) q.first)
+      (otherwise_spelled kind margin busy q.mid rest f.2 q.second))
   statement_spelled kind margin (While test body) ts rest f h =
       in_head (λ (all : List Item). StatementAs kind (While test body) all rest) (codes "while") (expression test) (block margin (statements kind (deeper margin) body)) ts rest h
       (λ l m n mid next i j.
@@ -102,7 +110,7 @@ mutual
   statement_spelled kind margin (InitCond p) ts rest f h = simple_line kind (InitCond p) ts rest tt f h
   statement_spelled kind margin (Lock p) ts rest f h = simple_line kind (Lock p) ts rest tt f h
   statement_spelled kind margin (Unlock p) ts rest f h = simple_line kind (Unlock p) ts rest tt f h
-  statement_spelled kind margin (Wait cond mutex) ts rest f h = simple_line kind (Wait cond mutex) ts rest tt f h
+  statement_spelled kind margin (Wait cond mutex takes) ts rest f h = simple_line kind (Wait cond mutex takes) ts rest tt f h
   statement_spelled kind margin (Signal cond) ts rest f h = simple_line kind (Signal cond) ts rest tt f h
   statement_spelled kind margin (Broadcast cond) ts rest f h = simple_line kind (Broadcast cond) ts rest tt f h
   statement_spelled kind margin (Take monitor) ts rest f h = simple_line kind (Take monitor) ts rest tt f h

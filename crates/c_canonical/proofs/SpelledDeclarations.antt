@@ -10,7 +10,7 @@ use Rattle.c_grammar.specs.Commas.{Commas, one}
 use Rattle.c_grammar.specs.Statements as st
 use Rattle.c_grammar.specs.Statements.{SpellsSlots}
 use Rattle.c_grammar.specs.Declarations as d
-use Rattle.c_grammar.specs.Declarations.{Scalar, Several, SpellsNumber, SpellsValue, SpellsCells}
+use Rattle.c_grammar.specs.Declarations.{Scalar, Several, SpellsValue, SpellsCells}
 use Rattle.c_canonical.specs.Expressions.{separated}
 use Rattle.c_canonical.specs.Programs.{value, cell, array, slot}
 use Rattle.c_canonical.specs.Shown.{Shows, nothing, shown, unseen}

@@ -1,5 +1,5 @@
 -- The canonical lines of capacities and of functions spell them.
-use Rattle.std.proofs.Common.{◌≡◌, ℕ, List, [], ◌∷◌, ◌++◌, codes, map, refl, sym, ap, ap₂, subst₂, Some}
+use Rattle.std.proofs.Common.{◌≡◌, ℕ, Bool, true, false, List, [], ◌∷◌, ◌++◌, codes, map, refl, sym, ap, ap₂, subst₂, Some}
 use Rattle.std.specs.Prelude.{All}
 use Rattle.c_lexer.specs.declared.token.Sign.TheVariants as s
 use Rattle.c_layout.specs.Layout as layout
@@ -11,25 +11,23 @@ use Rattle.c_tree.specs.Bare.{Stmts, Function}
 use Rattle.c_grammar.specs.declared.words.FixedWord.TheVariants as w
 use Rattle.c_grammar.specs.Items.{Item, sign, spelling}
 use Rattle.c_grammar.specs.Levels.{tall}
+use Rattle.c_grammar.specs.Simple.{SpellsNumber}
 use Rattle.c_grammar.specs.Statements as st
 use Rattle.c_grammar.specs.Statements.{SpellsBody}
 use Rattle.c_grammar.specs.Declarations as d
-use Rattle.c_grammar.specs.Declarations.{SpellsNumber, SpellsPrototype, SpellsCapacities, SpellsParameter, SpellsParameters, SpellsHead, SpellsFunction}
-use Rattle.c_canonical.specs.Expressions.{separated}
-use Rattle.c_canonical.specs.Programs.{braced, equals, length_of, declared, capacity, monitor_call, monitors, result_type, parameters, function_head, function}
+use Rattle.c_grammar.specs.Declarations.{SpellsPrototype, SpellsWaitPrototype, SpellsCapacities, SpellsParameter, SpellsParameters, SpellsHead, SpellsFunction}
+use Rattle.c_canonical.specs.Expressions.{separated, numeral}
+use Rattle.c_canonical.specs.Programs.{braced, equals, length_of, declared, monitor_call, wait_call, monitors, result_type, parameters, function_head, function}
 use Rattle.c_canonical.specs.Statements.{statements}
 use Rattle.c_canonical.specs.Shown.{Shows, nothing, shown, unseen}
 use Rattle.c_canonical.specs.Shaped.{Usable}
 use Rattle.c_canonical.specs.ShapedPrograms.{UsableFunction, ShapedHead, ShapedFunction}
-use Rattle.c_canonical.proofs.Shown.{Halves, shows_append}
-use Rattle.c_canonical.proofs.ShownLists.{same_shows, closed, separated_spelled}
+use Rattle.c_canonical.proofs.Shown.{shows_append}
+use Rattle.c_canonical.proofs.ShownLists.{same_shows, closed, separated_spelled, numeral_spelled}
 use Rattle.c_canonical.proofs.SpelledBodies.{body_spelled}
 use Rattle.c_canonical.proofs.SpelledDeclarations.{ended, in_braces}
 
 -- ---- capacities
-
-number_spelled : (n : ℕ) (ts rest : List Item) → Unit {0} → Shows (capacity n) ts rest → SpellsNumber ts rest n
-number_spelled n _ _ f (shown nothing) = d.number
 
 take_spelled : {ts rest : List Item} → Shows (monitor_call (codes "gd_take")) ts rest → SpellsPrototype w.Take ts rest
 take_spelled (shown (unseen (shown (shown (shown (unseen (shown (shown (shown (unseen nothing)))))))))) = d.prototype
@@ -37,28 +35,48 @@ take_spelled (shown (unseen (shown (shown (shown (unseen (shown (shown (shown (u
 give_spelled : {ts rest : List Item} → Shows (monitor_call (codes "gd_give")) ts rest → SpellsPrototype w.Give ts rest
 give_spelled (shown (unseen (shown (shown (shown (unseen (shown (shown (shown (unseen nothing)))))))))) = d.prototype
 
+wait_call_spelled : (waits : Bool) {ts rest : List Item} → Shows (wait_call waits) ts rest → SpellsWaitPrototype ts rest
+wait_call_spelled false nothing = d.absent
+wait_call_spelled true
+    (shown (unseen (shown (shown (shown (unseen (shown (shown (shown (unseen (shown (unseen (shown (shown (shown (unseen (shown (shown (shown (unseen nothing)))))))))))))))))))) =
+    d.present
+
 -- The capacities of the tree, at some line.
 pub record CapacitiesSpelled (len : ℕ) (all : List ℕ) (ts rest : List Item) : Type 0 where
   pub line : ℕ
   pub spelled : SpellsCapacities ts rest (record { len = len; values = all; line = line })
 
-abbrev calls : List layout.Item
-calls = monitor_call (codes "gd_take") ++ monitor_call (codes "gd_give")
+abbrev calls : Bool → List layout.Item
+calls waits = monitor_call (codes "gd_take") ++ (monitor_call (codes "gd_give") ++ wait_call waits)
+
+-- The declarations of the calls that the tokens spell.
+record CallsSpelled (ts rest : List Item) : Type 0 where
+  mid : List Item
+  last : List Item
+  take : SpellsPrototype w.Take ts mid
+  give : SpellsPrototype w.Give mid last
+  wait : SpellsWaitPrototype last rest
+
+calls_spelled : (waits : Bool) {ts rest : List Item} → Shows (calls waits) ts rest → CallsSpelled ts rest
+calls_spelled waits h =
+    let p = shows_append (monitor_call (codes "gd_take")) (monitor_call (codes "gd_give") ++ wait_call waits) _ _ h in
+    let q = shows_append (monitor_call (codes "gd_give")) (wait_call waits) _ _ p.second in
+    record { mid = p.mid; last = q.mid; take = take_spelled p.first; give = give_spelled q.first; wait = wait_call_spelled waits q.second }
 
 -- The line of the capacities themselves.
 abbrev first_line : ℕ → ℕ → List ℕ → List layout.Item
-first_line len first more = declared (codes "int") (layout.word (codes "gd_cap") ∷ (length_of (Some len) ++ equals (braced (map capacity (first ∷ more)))))
+first_line len first more = declared (codes "int") (layout.word (codes "gd_cap") ∷ (length_of (Some len) ++ equals (braced (map numeral (first ∷ more)))))
 
-capacities_by : (len first : ℕ) (more : List ℕ) {ts mid rest : List Item} → Shows (first_line len first more) ts mid → Halves (monitor_call (codes "gd_take")) (monitor_call (codes "gd_give")) mid rest
+capacities_by : (len first : ℕ) (more : List ℕ) {ts mid rest : List Item} → Shows (first_line len first more) ts mid → CallsSpelled mid rest
     → CapacitiesSpelled len (first ∷ more) ts rest
 capacities_by len first more (shown (unseen (shown {line = l} (shown (shown (shown (unseen (shown (unseen (shown h)))))))))) p =
-    let b = in_braces capacity (λ n. Unit {0}) SpellsNumber number_spelled first more (λ k d l. tt) h in
-    record { line = l; spelled = d.capacities b.parts (take_spelled p.first) (give_spelled p.second) }
+    let b = in_braces numeral (λ n. Unit {0}) SpellsNumber numeral_spelled first more (λ k d l. tt) h in
+    record { line = l; spelled = d.capacities b.parts p.take p.give p.wait }
 
-pub capacities_spelled : (len first : ℕ) (more : List ℕ) {ts rest : List Item} → Shows (monitors len (first ∷ more)) ts rest → CapacitiesSpelled len (first ∷ more) ts rest
-capacities_spelled len first more h =
-    let p = shows_append (first_line len first more) calls _ _ h in
-    capacities_by len first more p.first (shows_append (monitor_call (codes "gd_take")) (monitor_call (codes "gd_give")) _ _ p.second)
+pub capacities_spelled : (len first : ℕ) (more : List ℕ) (waits : Bool) {ts rest : List Item} → Shows (monitors len (first ∷ more) waits) ts rest → CapacitiesSpelled len (first ∷ more) ts rest
+capacities_spelled len first more waits h =
+    let p = shows_append (first_line len first more) (calls waits) _ _ h in
+    capacities_by len first more p.first (calls_spelled waits p.second)
 
 -- ---- parameters
 

@@ -1,5 +1,5 @@
 -- The canonical layout of a program that is shaped spells it.
-use Rattle.std.proofs.Common.{◌≡◌, ℕ, List, [], ◌∷◌, ◌++◌, map, refl, sym, ap, ap₂, ◌∙◌, append-nil}
+use Rattle.std.proofs.Common.{◌≡◌, ℕ, Bool, List, [], ◌∷◌, ◌++◌, map, refl, sym, ap, ap₂, ◌∙◌, append-nil}
 use Rattle.std.specs.List.{flat_map}
 use Rattle.std.proofs.lemmas.List.{map-append}
 use Rattle.c_layout.specs.Layout as layout
@@ -12,6 +12,7 @@ use Rattle.c_grammar.specs.Declarations as d
 use Rattle.c_grammar.specs.Programs as programs
 use Rattle.c_grammar.specs.Programs.{SpellsOuter, SpellsProgram, empty_program, capacity_program, with_cells, with_objects, with_slots, with_function}
 use Rattle.c_canonical.specs.Programs.{cell, array, mutex, condition, slot, monitors, function, declarations, layout_of}
+use Rattle.c_canonical.specs.Waits.{some_waits}
 use Rattle.c_canonical.specs.Shown.{Shows, nothing, unseen}
 use Rattle.c_canonical.specs.Shaped.{ShapedSlot}
 use Rattle.c_canonical.specs.ShapedPrograms.{ShapedCell, ShapedArray, ShapedObject, ShapedFunction, ShapedCapacities, ShapedProgram}
@@ -116,10 +117,10 @@ record Started (end len : ℕ) (all : List ℕ) (ts mid : List Item) : Type 0 wh
   is : bare_program start.tree ≡ of_capacities len all
   whole : (q : Tall lined.Program) → SpellsOuter start mid [] q → SpellsProgram end ts q
 
-started : (end len : ℕ) (all : List ℕ) {ts mid : List Item} → ShapedCapacities len all → Shows (monitors len all) ts mid → Started end len all ts mid
-started end len [] f nothing = record { start = empty_program end; is = ap (λ (n : ℕ). of_capacities n []) (sym f); whole = λ q h. programs.plain h }
-started end len (first ∷ more) f h =
-    let c = capacities_spelled len first more h in
+started : (end len : ℕ) (all : List ℕ) (waits : Bool) {ts mid : List Item} → ShapedCapacities len all → Shows (monitors len all waits) ts mid → Started end len all ts mid
+started end len [] waits f nothing = record { start = empty_program end; is = ap (λ (n : ℕ). of_capacities n []) (sym f); whole = λ q h. programs.plain h }
+started end len (first ∷ more) waits f h =
+    let c = capacities_spelled len first more waits h in
     record { start = capacity_program end (record { len = len; values = first ∷ more; line = c.line }); is = refl; whole = λ q h. programs.with_capacities c.spelled h }
 
 -- ---- programs
@@ -139,5 +140,5 @@ program_by end p f st h =
 pub program_spelled : (end : ℕ) (p : Program) {ts : List Item} → ShapedProgram p → Shows (layout_of p) ts [] → ProgramSpelled end p ts
 program_spelled end p f (unseen (unseen (unseen (unseen h)))) =
     let a = shows_append (declarations p) (flat_map function p.functions) _ _ h in
-    let b = shows_append (monitors p.cap_len p.monitors) (behind_capacities p) _ _ a.first in
-    program_by end p f (started end p.cap_len p.monitors f.capacities b.first) (both (behind_capacities p) (flat_map function p.functions) b.second a.second)
+    let b = shows_append (monitors p.cap_len p.monitors (some_waits p.functions)) (behind_capacities p) _ _ a.first in
+    program_by end p f (started end p.cap_len p.monitors (some_waits p.functions) f.capacities b.first) (both (behind_capacities p) (flat_map function p.functions) b.second a.second)

@@ -1,28 +1,28 @@
 -- The canonical tokens of shaped statements that hold others spell them, where those of their parts do.
-use Rattle.std.proofs.Common.{◌≡◌, ℕ, suc, max, Bool, true, false, List, [], ◌∷◌, ◌++◌, Some, refl, ◌∙◌, ap}
+use Rattle.std.proofs.Common.{◌≡◌, ℕ, suc, max, Bool, true, false, List, [], ◌∷◌, ◌++◌, codes, Some, refl, ◌∙◌, ap}
 use Rattle.c_lexer.specs.declared.token.Sign.TheVariants as s
 use Rattle.c_layout.specs.Layout as layout
 use Rattle.c_layout.specs.Layout.{Item as Part}
 use Rattle.c_tree.specs.declared.program.Kind.{Kind}
-use Rattle.c_tree.specs.Expressions.{Expr}
+use Rattle.c_tree.specs.Expressions.{Expr, Place}
 use Rattle.c_tree.specs.Lined as lined
 use Rattle.c_tree.specs.Lined.{listed, bare_stmt, bare_stmts}
-use Rattle.c_tree.specs.Bare.{Stmt, Stmts, Nil, Cons, Declare, Assign, If, While, For}
+use Rattle.c_tree.specs.Bare.{Stmt, Stmts, Nil, Cons, Declare, Assign, If, TryLock, While, For}
 use Rattle.c_grammar.specs.declared.words.FixedWord.TheVariants as w
 use Rattle.c_grammar.specs.Items.{Item, at, sign, fixed, undefined_name}
 use Rattle.c_grammar.specs.Levels.{tall}
 use Rattle.c_grammar.specs.Expressions.{loosest}
 use Rattle.c_grammar.specs.Statements as st
-use Rattle.c_grammar.specs.Statements.{SpellsFirst, SpellsLast, SpellsStatement, SpellsArm, SpellsBody}
+use Rattle.c_grammar.specs.Statements.{SpellsFirst, SpellsLast, Choice, Value, Taken, SpellsTry, SpellsChoice, SpellsStatement, SpellsArm, SpellsBody}
 use Rattle.c_canonical.specs.Expressions.{expression}
-use Rattle.c_canonical.specs.Statements.{simple, part, block, headed}
+use Rattle.c_canonical.specs.Statements.{address, called, simple, part, tried, block, headed}
 use Rattle.c_canonical.specs.Shown.{Shows, nothing, shown, unseen}
-use Rattle.c_canonical.specs.Shaped.{ShapedExpr, ShapedFirst, ShapedStep, ShapedStmt}
+use Rattle.c_canonical.specs.Shaped.{ShapedExpr, ShapedPlace, ShapedFirst, ShapedStep, ShapedStmt}
 use Rattle.c_canonical.proofs.Shown.{shows_append}
 use Rattle.c_canonical.proofs.Steps.{past_gap}
 use Rattle.c_canonical.proofs.SpelledExpressions.{SpelledAs, before, expression_spelled, whole_spelled}
 use Rattle.c_canonical.proofs.SpelledSimple.{SimpleAs, step_spelled}
-use Rattle.c_canonical.proofs.SpelledActs.{IsSimple, simple_spelled}
+use Rattle.c_canonical.proofs.SpelledActs.{object_spelled, IsSimple, simple_spelled}
 use Rattle.c_canonical.proofs.Rows.{Row, row_list}
 
 -- Items spell this statement of a function of this kind.
@@ -107,6 +107,31 @@ block_spelled kind margin inside given _ rest spells (shown {line = l} (unseen {
         let all = row_list kind ts ts (sign m s.RightBrace ∷ rest) [] r.stmts (record { levels = 0; spells = st.none }) r.row in
         record { stmts = r.stmts; levels = all.levels; spells = st.braces all.spells; same = r.same }
 
+-- ---- the test of a trylock
+
+-- Items spell this test, on some levels.
+record TryAs (p : Place) (ts rest : List Item) : Type 0 where
+  pub levels : ℕ
+  pub spells : SpellsTry ts rest (tall p levels)
+
+pub record ChoiceAs (c : Choice) (ts rest : List Item) : Type 0 where
+  pub levels : ℕ
+  pub spells : SpellsChoice ts rest (tall c levels)
+
+try_spelled : (p : Place) (ts rest : List Item) → ShapedPlace p → Shows (called (codes "pthread_mutex_trylock") (address p)) ts rest → TryAs p ts rest
+try_spelled p ts rest f h =
+    object_spelled (codes "pthread_mutex_trylock") p (λ (all : List Item). TryAs p all rest) ts rest f h
+    (λ l m n mid a. record { levels = a.levels; spells = st.try a.spells })
+
+pub tried_spelled : (p : Place) (ts rest : List Item) → ShapedPlace p → Shows (tried p) ts rest → ChoiceAs (Taken p) ts rest
+tried_spelled p ts rest f h =
+    let behind = layout.space ∷ layout.sign s.Equal ∷ layout.space ∷ layout.number 0 ∷ [] in
+    let a = shows_append (called (codes "pthread_mutex_trylock") (address p)) behind ts rest h in
+    by a.mid (try_spelled p ts a.mid f a.first) a.second
+  where
+    by : (mid : List Item) → TryAs p ts mid → Shows (layout.space ∷ layout.sign s.Equal ∷ layout.space ∷ layout.number 0 ∷ []) mid rest → ChoiceAs (Taken p) ts rest
+    by _ t (unseen (shown (unseen (shown nothing)))) = record { levels = suc t.levels; spells = st.zero t.spells }
+
 -- ---- one statement from its parts
 
 -- What stands after the first arm of an `if`: nothing, or `else` and these statements.
@@ -120,15 +145,32 @@ if_spelled kind test one _ l m n ts mid next _ v a none = record {
   flag = false;
   stmt = lined.If l test (listed a.stmts) (listed []);
   levels = suc (max v.levels (max a.levels 0));
-  spells = st.if_only v.spells a.spells;
+  spells = st.if_only (st.value v.spells) a.spells;
   same = ap (λ (ss : Stmts). If test ss Nil) a.same;
 }
 if_spelled kind test one two l m n ts mid _ rest v a (arm {b = b} c) = record {
   flag = b;
   stmt = lined.If l test (listed a.stmts) (listed c.stmts);
   levels = suc (max v.levels (max a.levels c.levels));
-  spells = st.if_else v.spells a.spells c.spells;
+  spells = st.if_else (st.value v.spells) a.spells c.spells;
   same = ap (λ (ss : Stmts). If test ss (bare_stmts (listed c.stmts))) a.same ∙ ap (λ (ss : Stmts). If test one ss) c.same;
+}
+
+pub try_lock_spelled : (kind : Kind) (p : Place) (taken busy : Stmts) (l m n : ℕ) (ts mid next rest : List Item) → ChoiceAs (Taken p) ts (sign n s.RightParenthesis ∷ mid)
+    → ArmAs kind true taken mid next → Otherwise kind next rest busy → StatementAs kind (TryLock p taken busy) (fixed l w.If ∷ sign m s.LeftParenthesis ∷ ts) rest
+try_lock_spelled kind p taken _ l m n ts mid next _ v a none = record {
+  flag = false;
+  stmt = lined.TryLock l p (listed a.stmts) (listed []);
+  levels = suc (max v.levels (max a.levels 0));
+  spells = st.if_only v.spells a.spells;
+  same = ap (λ (ss : Stmts). TryLock p ss Nil) a.same;
+}
+try_lock_spelled kind p taken busy l m n ts mid _ rest v a (arm {b = b} c) = record {
+  flag = b;
+  stmt = lined.TryLock l p (listed a.stmts) (listed c.stmts);
+  levels = suc (max v.levels (max a.levels c.levels));
+  spells = st.if_else v.spells a.spells c.spells;
+  same = ap (λ (ss : Stmts). TryLock p ss (bare_stmts (listed c.stmts))) a.same ∙ ap (λ (ss : Stmts). TryLock p taken ss) c.same;
 }
 
 pub while_spelled : (kind : Kind) (test : Expr) (body : Stmts) (l m n : ℕ) (ts mid rest : List Item) → SpelledAs loosest test ts (sign n s.RightParenthesis ∷ mid)

@@ -1,19 +1,22 @@
 -- The layouts of statements are parted.
-use Rattle.std.proofs.Common.{◌≡◌, ℕ, Bool, true, false, List, [], ◌∷◌, ◌++◌, codes, refl, arith, Option, Some, None}
-use Rattle.std.specs.Prelude.{if◌then◌else◌}
+use Rattle.std.proofs.Common.{◌≡◌, ℕ, Bool, true, false, List, [], ◌∷◌, ◌++◌, codes, map, refl, arith, Option, Some, None}
+use Rattle.std.specs.Prelude.{if◌then◌else◌, ◌≤◌, All}
 use Rattle.std.specs.List.{list_all}
 use Rattle.c_lexer.specs.declared.token.Sign.TheVariants as s
 use Rattle.c_lexer.specs.Classes.{is_word, is_blank}
+use Rattle.c_lexer.specs.Words.{largest}
 use Rattle.c_layout.specs.Layout.{Item, text, word, number, sign, gap, space, newline, IsName}
 use Rattle.c_tree.specs.declared.program.Kind.{Kind}
 use Rattle.c_tree.specs.declared.program.Kind.TheVariants as k
 use Rattle.c_tree.specs.Expressions.{Expr, Place}
-use Rattle.c_tree.specs.Bare.{Stmt, Stmts, Nil, Cons, Declare, Assign, Call, If, While, For, Return, Read, Print, Create, Join, InitMutex, InitCond, Lock, Unlock, Wait, Signal, Broadcast, Take, Give}
-use Rattle.c_canonical.specs.Expressions.{expression, expressions, place, is_binary, wrapped, followed, separated}
-use Rattle.c_canonical.specs.Statements.{called, address, with_null, assigned, initial, argument_cast, returned, creation, simple, part, deeper, is_chain, block, headed, line, statement, statements, otherwise}
+use Rattle.c_tree.specs.Bare.{Stmt, Stmts, Nil, Cons, Declare, Assign, Call, If, While, For, Return, Read, Print, Create, Join, InitMutex, InitCond, Lock, TryLock, Unlock, Wait, Signal, Broadcast, Take, Give}
+use Rattle.c_canonical.specs.Expressions.{expression, expressions, place, is_binary, wrapped, followed, separated, numeral}
+use Rattle.c_canonical.specs.Statements.{called, address, with_null, assigned, initial, argument_cast, returned, creation, taking, waited, simple, part, deeper, is_chain, tried, block, headed, line, statement, statements, otherwise}
 use Rattle.c_canonical.specs.Writable.{IsWritable, IsWritableIfAny, IsWritablePlace, IsWritableTarget, IsWritableStmt, AreWritableStmts}
 use Rattle.c_canonical.proofs.Parts.{Joins, joins_append, nothing, word_then, number_then, quoted_then, sign_then, free_then, gap_then, Quiet, quiet_stops, ampersand_before}
 use Rattle.c_canonical.proofs.ExpressionParts.{wrapped_joins, expression_joins, place_joins, place_stops, followed_joins, separated_joins}
+use Rattle.c_canonical.proofs.ListParts.{numeral_joins, minus_joins}
+use Rattle.c_canonical.proofs.ListParts as lists
 
 -- ---- parts
 
@@ -86,6 +89,24 @@ init_joins : (function : List ℕ) (p : Place) (rest : List ℕ) → IsName func
 init_joins function p rest n f =
     called_joins function (address p ++ with_null) rest n (joins_append (address p) with_null (41 ∷ rest) (address_joins p _ f refl) (null_joins (41 ∷ rest) refl))
 
+-- `, K` for each monitor, and `, -1`
+taking_joins : (monitors : List ℕ) (rest : List ℕ) → All (λ k. k ≤ largest) monitors → Quiet rest → Joins (taking monitors) rest
+taking_joins monitors rest f q =
+    joins_append (followed (map numeral monitors)) (sign s.Comma ∷ space ∷ sign s.Minus ∷ number 1 ∷ []) rest (lists.followed_joins (λ k. k ≤ largest) numeral numeral_joins monitors _ f refl)
+    (free_then s.Comma (λ c. refl) _ rest (gap_then (codes " ") _ rest refl (minus_joins 1 rest (omega arith) q)))
+
+waited_joins : (cond mutex : Place) (takes : List ℕ) (rest : List ℕ) → IsWritablePlace cond → IsWritablePlace mutex → All (λ k. k ≤ largest) takes → Joins (waited cond mutex takes) rest
+unfolding is_word
+waited_joins cond mutex [] rest f g h =
+    called_joins (codes "pthread_cond_wait") (address cond ++ sign s.Comma ∷ space ∷ address mutex) rest refl
+    (joins_append (address cond) (sign s.Comma ∷ space ∷ address mutex) (41 ∷ rest) (address_joins cond _ f refl)
+    (free_then s.Comma (λ c. refl) _ (41 ∷ rest) (gap_then (codes " ") _ (41 ∷ rest) refl (address_joins mutex (41 ∷ rest) g refl))))
+waited_joins cond mutex (k ∷ ks) rest f g h =
+    called_joins (codes "gd_cond_wait") (address cond ++ sign s.Comma ∷ space ∷ (address mutex ++ taking (k ∷ ks))) rest refl
+    (joins_append (address cond) (sign s.Comma ∷ space ∷ (address mutex ++ taking (k ∷ ks))) (41 ∷ rest) (address_joins cond _ f refl)
+    (free_then s.Comma (λ c. refl) _ (41 ∷ rest) (gap_then (codes " ") _ (41 ∷ rest) refl
+    (joins_append (address mutex) (taking (k ∷ ks)) (41 ∷ rest) (address_joins mutex _ g refl) (taking_joins (k ∷ ks) (41 ∷ rest) h refl)))))
+
 pub simple_joins : (kind : Kind) (given : Stmt) (rest : List ℕ) → IsWritableStmt given → Quiet rest → Joins (simple kind given) rest
 unfolding is_word
 simple_joins kind (Declare name value) rest f q =
@@ -111,11 +132,9 @@ simple_joins kind (Join slot) rest f q =
 simple_joins kind (InitMutex p) rest f q = init_joins (codes "pthread_mutex_init") p rest refl f
 simple_joins kind (InitCond p) rest f q = init_joins (codes "pthread_cond_init") p rest refl f
 simple_joins kind (Lock p) rest f q = object_joins (codes "pthread_mutex_lock") p rest refl f
+simple_joins kind (TryLock p taken busy) rest f q = nothing rest
 simple_joins kind (Unlock p) rest f q = object_joins (codes "pthread_mutex_unlock") p rest refl f
-simple_joins kind (Wait cond mutex) rest f q =
-    called_joins (codes "pthread_cond_wait") (address cond ++ sign s.Comma ∷ space ∷ address mutex) rest refl
-    (joins_append (address cond) (sign s.Comma ∷ space ∷ address mutex) (41 ∷ rest) (address_joins cond _ f.0 refl)
-    (free_then s.Comma (λ c. refl) _ (41 ∷ rest) (gap_then (codes " ") _ (41 ∷ rest) refl (address_joins mutex (41 ∷ rest) f.1 refl))))
+simple_joins kind (Wait cond mutex takes) rest f q = waited_joins cond mutex takes rest f.0 f.1 f.2
 simple_joins kind (Signal cond) rest f q = object_joins (codes "pthread_cond_signal") cond rest refl f
 simple_joins kind (Broadcast cond) rest f q = object_joins (codes "pthread_cond_broadcast") cond rest refl f
 simple_joins kind (Take monitor) rest f q = called_joins (codes "gd_take") (number monitor ∷ []) rest refl (number_then monitor [] (41 ∷ rest) f refl (nothing (41 ∷ rest)))
@@ -159,6 +178,13 @@ line_joins margin items more rest b h g = gap_then margin _ rest b (joins_append
 simple_line : (kind : Kind) (given : Stmt) (rest : List ℕ) → IsWritableStmt given → Joins (simple kind given ++ sign s.Semicolon ∷ []) rest
 simple_line kind given rest f = joins_append (simple kind given) (sign s.Semicolon ∷ []) rest (simple_joins kind given (59 ∷ rest) f refl) (semicolon rest)
 
+-- `pthread_mutex_trylock(&a) == 0`
+tried_joins : (p : Place) (rest : List ℕ) → IsWritablePlace p → Quiet rest → Joins (tried p) rest
+unfolding is_word
+tried_joins p rest f q =
+    joins_append (called (codes "pthread_mutex_trylock") (address p)) (space ∷ sign s.Equal ∷ space ∷ number 0 ∷ []) rest (object_joins (codes "pthread_mutex_trylock") p _ refl f)
+    (gap_then (codes " ") _ rest refl (free_then s.Equal (λ c. refl) _ rest (gap_then (codes " ") _ rest refl (numeral_joins 0 rest (omega arith) q))))
+
 mutual
   unfolding is_word
 
@@ -168,6 +194,11 @@ mutual
       (head_joins (codes "if") (expression test) _ refl (expression_joins test _ f.0 refl))
       (joins_append (block margin (statements kind (deeper margin) then_arm)) (otherwise kind margin else_arm) rest
       (block_joins margin (statements kind (deeper margin) then_arm) _ b (λ r. statements_join kind (deeper margin) then_arm r b f.1)) (otherwise_joins kind margin else_arm rest b f.2))
+  statement_joins kind margin (TryLock p taken busy) rest b f =
+      joins_append (headed (codes "if") (tried p)) (block margin (statements kind (deeper margin) taken) ++ otherwise kind margin busy) rest
+      (head_joins (codes "if") (tried p) _ refl (tried_joins p _ f.0 refl))
+      (joins_append (block margin (statements kind (deeper margin) taken)) (otherwise kind margin busy) rest
+      (block_joins margin (statements kind (deeper margin) taken) _ b (λ r. statements_join kind (deeper margin) taken r b f.1)) (otherwise_joins kind margin busy rest b f.2))
   statement_joins kind margin (While test body) rest b f =
       joins_append (headed (codes "while") (expression test)) (block margin (statements kind (deeper margin) body)) rest
       (head_joins (codes "while") (expression test) _ refl (expression_joins test _ f.0 refl))
@@ -188,7 +219,7 @@ mutual
   statement_joins kind margin (InitCond p) rest b f = simple_line kind (InitCond p) rest f
   statement_joins kind margin (Lock p) rest b f = simple_line kind (Lock p) rest f
   statement_joins kind margin (Unlock p) rest b f = simple_line kind (Unlock p) rest f
-  statement_joins kind margin (Wait cond mutex) rest b f = simple_line kind (Wait cond mutex) rest f
+  statement_joins kind margin (Wait cond mutex takes) rest b f = simple_line kind (Wait cond mutex takes) rest f
   statement_joins kind margin (Signal cond) rest b f = simple_line kind (Signal cond) rest f
   statement_joins kind margin (Broadcast cond) rest b f = simple_line kind (Broadcast cond) rest f
   statement_joins kind margin (Take monitor) rest b f = simple_line kind (Take monitor) rest f

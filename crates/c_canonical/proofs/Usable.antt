@@ -22,6 +22,8 @@ fixed_is w.For = refl
 fixed_is w.Return = refl
 fixed_is w.Main = refl
 fixed_is w.Parameter = refl
+fixed_is w.ConditionParameter = refl
+fixed_is w.MutexParameter = refl
 fixed_is w.Null = refl
 fixed_is w.IntPointer = refl
 fixed_is w.Print = refl
@@ -36,6 +38,7 @@ fixed_is w.Join = refl
 fixed_is w.InitMutex = refl
 fixed_is w.InitCondition = refl
 fixed_is w.Lock = refl
+fixed_is w.TryLock = refl
 fixed_is w.Unlock = refl
 fixed_is w.Wait = refl
 fixed_is w.Signal = refl
@@ -43,6 +46,7 @@ fixed_is w.Broadcast = refl
 fixed_is w.Capacities = refl
 fixed_is w.Take = refl
 fixed_is w.Give = refl
+fixed_is w.ControlledWait = refl
 
 fixed_named : (x : FixedWord) → IsName (spelling x)
 unfolding is_word
@@ -57,6 +61,8 @@ fixed_named w.For = refl
 fixed_named w.Return = refl
 fixed_named w.Main = refl
 fixed_named w.Parameter = refl
+fixed_named w.ConditionParameter = refl
+fixed_named w.MutexParameter = refl
 fixed_named w.Null = refl
 fixed_named w.IntPointer = refl
 fixed_named w.Print = refl
@@ -71,6 +77,7 @@ fixed_named w.Join = refl
 fixed_named w.InitMutex = refl
 fixed_named w.InitCondition = refl
 fixed_named w.Lock = refl
+fixed_named w.TryLock = refl
 fixed_named w.Unlock = refl
 fixed_named w.Wait = refl
 fixed_named w.Signal = refl
@@ -78,6 +85,7 @@ fixed_named w.Broadcast = refl
 fixed_named w.Capacities = refl
 fixed_named w.Take = refl
 fixed_named w.Give = refl
+fixed_named w.ControlledWait = refl
 
 same_name : (m n : List ℕ) → Some m ≡ Some n → m ≡ n
 same_name m n e = cc
@@ -97,4 +105,6 @@ pub callee_known : (a : What) (n : List ℕ) → Genuine a → callee a ≡ Some
 callee_known (What.Name m) n g e = let same = same_name m n e in (subst Callable same (ap callee g.0), subst IsName same g.1)
 callee_known (What.Fixed w.Main) n g e = let same = same_name (spelling w.Main) n e in (subst Callable same refl, subst IsName same (fixed_named w.Main))
 callee_known (What.Fixed w.Parameter) n g e = let same = same_name (spelling w.Parameter) n e in (subst Callable same refl, subst IsName same (fixed_named w.Parameter))
+callee_known (What.Fixed w.ConditionParameter) n g e = let same = same_name (spelling w.ConditionParameter) n e in (subst Callable same refl, subst IsName same (fixed_named w.ConditionParameter))
+callee_known (What.Fixed w.MutexParameter) n g e = let same = same_name (spelling w.MutexParameter) n e in (subst Callable same refl, subst IsName same (fixed_named w.MutexParameter))
 callee_known _ n g e = absurd cc

@@ -108,6 +108,10 @@ abbrev pub separated : List (List Item) → List Item
 separated [] = []
 separated (x ∷ xs) = x ++ followed xs
 
+-- A number by itself.
+abbrev pub numeral : ℕ → List Item
+numeral n = number n ∷ []
+
 -- The layouts of expressions, one for each.
 abbrev pub expressions : Exprs → List (List Item)
 expressions tree.Nil = []

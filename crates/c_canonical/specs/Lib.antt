@@ -1,5 +1,6 @@
 pub mod Expressions
 pub mod Statements
+pub mod Waits
 pub mod Programs
 pub mod Writable
 pub mod Shown

@@ -6,8 +6,9 @@ use Rattle.c_layout.specs.Layout.{Item, word, number, sign, space, newline, incl
 use Rattle.c_tree.specs.declared.program.Kind.{Kind}
 use Rattle.c_tree.specs.declared.program.Kind.TheVariants as k
 use Rattle.c_tree.specs.Bare.{Cell, Array, Object, Slot, Function, Program}
-use Rattle.c_canonical.specs.Expressions.{separated}
+use Rattle.c_canonical.specs.Expressions.{separated, numeral}
 use Rattle.c_canonical.specs.Statements.{statements}
+use Rattle.c_canonical.specs.Waits.{some_waits}
 
 -- A number of type `int`.
 abbrev pub value : ℤ → List Item
@@ -74,16 +75,20 @@ abbrev pub monitor_call : List ℕ → List Item
 monitor_call name =
     declared (codes "void") (word name ∷ sign s.LeftParenthesis ∷ word (codes "int") ∷ space ∷ word (codes "k") ∷ sign s.RightParenthesis ∷ [])
 
--- The number of tokens of a monitor.
-abbrev pub capacity : ℕ → List Item
-capacity n = number n ∷ []
+-- `void gd_cond_wait(pthread_cond_t *c, pthread_mutex_t *m, ...);` on a line, where it is wanted
+abbrev pub wait_call : Bool → List Item
+wait_call false = []
+wait_call true =
+    declared (codes "void")
+    (word (codes "gd_cond_wait") ∷ sign s.LeftParenthesis ∷ word (codes "pthread_cond_t") ∷ space ∷ sign s.Star ∷ word (codes "c") ∷ sign s.Comma ∷ space
+    ∷ word (codes "pthread_mutex_t") ∷ space ∷ sign s.Star ∷ word (codes "m") ∷ sign s.Comma ∷ space ∷ sign s.Ellipsis ∷ sign s.RightParenthesis ∷ [])
 
--- The declarations of the monitors, if there are any.
-abbrev pub monitors : ℕ → List ℕ → List Item
-monitors len [] = []
-monitors len (cap ∷ caps) =
-    declared (codes "int") (word (codes "gd_cap") ∷ (length_of (Some len) ++ equals (braced (map capacity (cap ∷ caps)))))
-    ++ (monitor_call (codes "gd_take") ++ monitor_call (codes "gd_give"))
+-- The declarations of the monitors, if there are any. The flag says that some wait takes tokens.
+abbrev pub monitors : ℕ → List ℕ → Bool → List Item
+monitors len [] waits = []
+monitors len (cap ∷ caps) waits =
+    declared (codes "int") (word (codes "gd_cap") ∷ (length_of (Some len) ++ equals (braced (map numeral (cap ∷ caps)))))
+    ++ (monitor_call (codes "gd_take") ++ (monitor_call (codes "gd_give") ++ wait_call waits))
 
 -- What a function of this kind gives, before its name.
 abbrev pub result_type : Kind → List Item
@@ -117,7 +122,7 @@ function f = function_head f ++ (statements f.kind (codes "    ") f.body ++ sign
 -- The declarations of a program, one on each line.
 abbrev pub declarations : Program → List Item
 declarations p =
-    monitors p.cap_len p.monitors ++ (flat_map cell p.ints ++ (flat_map array p.arrays ++ (flat_map mutex p.mutexes
+    monitors p.cap_len p.monitors (some_waits p.functions) ++ (flat_map cell p.ints ++ (flat_map array p.arrays ++ (flat_map mutex p.mutexes
     ++ (flat_map condition p.conds ++ flat_map slot p.threads))))
 
 -- The includes, the declarations and the functions of a program.

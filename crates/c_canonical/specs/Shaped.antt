@@ -4,7 +4,7 @@ use Rattle.c_tree.specs.declared.program.Kind.{Kind}
 use Rattle.c_tree.specs.declared.program.Kind.TheVariants as k
 use Rattle.c_tree.specs.Expressions.{Expr, Exprs, Number, Name, Element, Arg, Not, Minus, Binary, Place}
 use Rattle.c_tree.specs.Expressions as tree
-use Rattle.c_tree.specs.Bare.{Stmt, Stmts, Nil, Cons, Declare, Assign, Call, If, While, For, Return, Read, Print, Create, Join, InitMutex, InitCond, Lock, Unlock, Wait, Signal, Broadcast, Take, Give, Slot}
+use Rattle.c_tree.specs.Bare.{Stmt, Stmts, Nil, Cons, Declare, Assign, Call, If, While, For, Return, Read, Print, Create, Join, InitMutex, InitCond, Lock, TryLock, Unlock, Wait, Signal, Broadcast, Take, Give, Slot}
 use Rattle.c_grammar.specs.Items.{name_of, callee, undefined_name}
 
 -- ---- names
@@ -13,7 +13,7 @@ use Rattle.c_grammar.specs.Items.{name_of, callee, undefined_name}
 abbrev pub Usable : List ℕ → Type 0
 Usable name = name_of (undefined_name name) ≡ Some name
 
--- A name of a function that is called: none of the words that the grammar spells out but `main` and `k`.
+-- A name of a function that is called: none of the words that the grammar spells out but `main`, `k`, `c` and `m`.
 abbrev pub Callable : List ℕ → Type 0
 Callable name = callee (undefined_name name) ≡ Some name
 
@@ -83,8 +83,9 @@ abbrev mutual
   ShapedStmt kind (InitMutex p) = ShapedPlace p
   ShapedStmt kind (InitCond p) = ShapedPlace p
   ShapedStmt kind (Lock p) = ShapedPlace p
+  ShapedStmt kind (TryLock p taken busy) = ShapedPlace p × ShapedStmts kind taken × ShapedStmts kind busy
   ShapedStmt kind (Unlock p) = ShapedPlace p
-  ShapedStmt kind (Wait cond mutex) = ShapedPlace cond × ShapedPlace mutex
+  ShapedStmt kind (Wait cond mutex takes) = ShapedPlace cond × ShapedPlace mutex
   ShapedStmt kind (Signal cond) = ShapedPlace cond
   ShapedStmt kind (Broadcast cond) = ShapedPlace cond
   ShapedStmt kind (Take monitor) = Unit {0}

@@ -1,12 +1,12 @@
 -- The canonical layout of statements.
-use Rattle.std.specs.Prelude.{ℕ, Bool, true, false, ◌&&◌, if◌then◌else◌, List, [], ◌∷◌, ◌++◌, codes, Option, Some, None}
+use Rattle.std.specs.Prelude.{ℕ, Bool, true, false, ◌&&◌, if◌then◌else◌, List, [], ◌∷◌, ◌++◌, codes, map, Option, Some, None}
 use Rattle.c_lexer.specs.declared.token.Sign.TheVariants as s
 use Rattle.c_layout.specs.Layout.{Item, word, number, quoted, sign, gap, space, newline}
 use Rattle.c_tree.specs.declared.program.Kind.{Kind}
 use Rattle.c_tree.specs.declared.program.Kind.TheVariants as k
 use Rattle.c_tree.specs.Expressions.{Expr, Place}
-use Rattle.c_tree.specs.Bare.{Stmt, Stmts, Nil, Cons, Declare, Assign, Call, If, While, For, Return, Read, Print, Create, Join, InitMutex, InitCond, Lock, Unlock, Wait, Signal, Broadcast, Take, Give}
-use Rattle.c_canonical.specs.Expressions.{expression, expressions, place, is_binary, wrapped, followed, separated}
+use Rattle.c_tree.specs.Bare.{Stmt, Stmts, Nil, Cons, Declare, Assign, Call, If, While, For, Return, Read, Print, Create, Join, InitMutex, InitCond, Lock, TryLock, Unlock, Wait, Signal, Broadcast, Take, Give}
+use Rattle.c_canonical.specs.Expressions.{expression, expressions, place, is_binary, wrapped, followed, separated, numeral}
 
 -- `NAME(ITEMS)`
 abbrev pub called : List ℕ → List Item → List Item
@@ -47,6 +47,15 @@ abbrev pub creation : Place → List ℕ → Expr → List Item
 creation slot function arg =
     address slot ++ (with_null ++ sign s.Comma ∷ space ∷ word function ∷ sign s.Comma ∷ space ∷ (argument_cast ++ wrapped (is_binary arg) (expression arg)))
 
+-- `, K` for each of these monitors, and `, -1`
+abbrev pub taking : List ℕ → List Item
+taking monitors = followed (map numeral monitors) ++ sign s.Comma ∷ space ∷ sign s.Minus ∷ number 1 ∷ []
+
+-- A wait that takes tokens of these monitors, or of none.
+abbrev pub waited : Place → Place → List ℕ → List Item
+waited cond mutex [] = called (codes "pthread_cond_wait") (address cond ++ sign s.Comma ∷ space ∷ address mutex)
+waited cond mutex (k ∷ ks) = called (codes "gd_cond_wait") (address cond ++ sign s.Comma ∷ space ∷ (address mutex ++ taking (k ∷ ks)))
+
 -- A statement of one line, without its `;`, in a function of this kind. There is none for an `if`, a `while` or a `for`.
 abbrev pub simple : Kind → Stmt → List Item
 simple kind (Declare name value) = word (codes "int") ∷ space ∷ word name ∷ initial value
@@ -63,8 +72,9 @@ simple kind (Join slot) = called (codes "pthread_join") (place slot ++ with_null
 simple kind (InitMutex p) = called (codes "pthread_mutex_init") (address p ++ with_null)
 simple kind (InitCond p) = called (codes "pthread_cond_init") (address p ++ with_null)
 simple kind (Lock p) = called (codes "pthread_mutex_lock") (address p)
+simple kind (TryLock p taken busy) = []
 simple kind (Unlock p) = called (codes "pthread_mutex_unlock") (address p)
-simple kind (Wait cond mutex) = called (codes "pthread_cond_wait") (address cond ++ sign s.Comma ∷ space ∷ address mutex)
+simple kind (Wait cond mutex takes) = waited cond mutex takes
 simple kind (Signal cond) = called (codes "pthread_cond_signal") (address cond)
 simple kind (Broadcast cond) = called (codes "pthread_cond_broadcast") (address cond)
 simple kind (Take monitor) = called (codes "gd_take") (number monitor ∷ [])
@@ -79,8 +89,10 @@ part kind (Cons statement rest) = simple kind statement
 abbrev pub deeper : List ℕ → List ℕ
 deeper margin = codes "    " ++ margin
 
+-- Whether it is written as an `if`.
 abbrev pub is_if : Stmt → Bool
 is_if (If test then_arm else_arm) = true
+is_if (TryLock p taken busy) = true
 is_if statement = false
 
 abbrev pub is_empty : Stmts → Bool
@@ -94,6 +106,10 @@ block margin inside = sign s.LeftBrace ∷ newline ∷ (inside ++ gap margin ∷
 -- `WORD (ITEMS) ` before a block
 abbrev pub headed : List ℕ → List Item → List Item
 headed keyword items = word keyword ∷ space ∷ sign s.LeftParenthesis ∷ (items ++ sign s.RightParenthesis ∷ space ∷ [])
+
+-- What an `if` over a trylock tests: whether the mutex was taken.
+abbrev pub tried : Place → List Item
+tried p = called (codes "pthread_mutex_trylock") (address p) ++ space ∷ sign s.Equal ∷ space ∷ number 0 ∷ []
 
 -- Exactly one `if`, which follows an `else` without braces.
 abbrev pub is_chain : Stmts → Bool
@@ -109,6 +125,8 @@ abbrev mutual
   pub statement : Kind → List ℕ → Stmt → List Item
   statement kind margin (If test then_arm else_arm) =
       headed (codes "if") (expression test) ++ (block margin (statements kind (deeper margin) then_arm) ++ otherwise kind margin else_arm)
+  statement kind margin (TryLock p taken busy) =
+      headed (codes "if") (tried p) ++ (block margin (statements kind (deeper margin) taken) ++ otherwise kind margin busy)
   statement kind margin (While test body) = headed (codes "while") (expression test) ++ block margin (statements kind (deeper margin) body)
   statement kind margin (For first_part test step body) =
       headed (codes "for") (part kind first_part ++ sign s.Semicolon ∷ space ∷ (expression test ++ sign s.Semicolon ∷ space ∷ part kind step))

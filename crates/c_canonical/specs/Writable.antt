@@ -5,7 +5,7 @@ use Rattle.c_lexer.specs.Tokens.{Tokens}
 use Rattle.c_layout.specs.Layout.{text, words, IsName, IsQuotable}
 use Rattle.c_tree.specs.Expressions.{Expr, Exprs, Number, Name, Element, Arg, Not, Minus, Binary, Place}
 use Rattle.c_tree.specs.Expressions as tree
-use Rattle.c_tree.specs.Bare.{Stmt, Stmts, Nil, Cons, Declare, Assign, Call, If, While, For, Return, Read, Print, Create, Join, InitMutex, InitCond, Lock, Unlock, Wait, Signal, Broadcast, Take, Give, Cell, Array, Object, Slot, Function, Program}
+use Rattle.c_tree.specs.Bare.{Stmt, Stmts, Nil, Cons, Declare, Assign, Call, If, While, For, Return, Read, Print, Create, Join, InitMutex, InitCond, Lock, TryLock, Unlock, Wait, Signal, Broadcast, Take, Give, Cell, Array, Object, Slot, Function, Program}
 use Rattle.c_canonical.specs.Programs.{layout_of}
 
 -- Each name has at most 63 characters, letters, digits and `_`, and each number is at most 2147483647.
@@ -51,8 +51,9 @@ abbrev mutual
   IsWritableStmt (InitMutex p) = IsWritablePlace p
   IsWritableStmt (InitCond p) = IsWritablePlace p
   IsWritableStmt (Lock p) = IsWritablePlace p
+  IsWritableStmt (TryLock p taken busy) = IsWritablePlace p × AreWritableStmts taken × AreWritableStmts busy
   IsWritableStmt (Unlock p) = IsWritablePlace p
-  IsWritableStmt (Wait cond mutex) = IsWritablePlace cond × IsWritablePlace mutex
+  IsWritableStmt (Wait cond mutex takes) = IsWritablePlace cond × IsWritablePlace mutex × All (λ k. k ≤ largest) takes
   IsWritableStmt (Signal cond) = IsWritablePlace cond
   IsWritableStmt (Broadcast cond) = IsWritablePlace cond
   IsWritableStmt (Take monitor) = monitor ≤ largest

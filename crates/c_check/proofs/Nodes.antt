@@ -3,10 +3,11 @@ use Rattle.std.proofs.Common.{◌≡◌, ℕ, Bool, true, false, ◌||◌, List,
 use Rattle.std.specs.Prelude.{flat_map}
 use Rattle.std.specs.List.{list_any}
 use Rattle.std.proofs.lemmas.List.Folds.{list_any-append}
-use Rattle.c_tree.specs.Lined.{Stmt, Stmts, Nil, Cons, Declare, If, While, For}
+use Rattle.c_tree.specs.Lined.{Stmt, Stmts, Nil, Cons, Declare, If, While, For, TryLock}
 use Rattle.c_rules.specs.Names.{mentions}
 use Rattle.c_rules.specs.Sites.{Standing, declared, locals_of, inside, listed}
-use Rattle.c_rules.specs.Uses.{of_expr}
+use Rattle.c_rules.specs.declared.role.Role.TheVariants.{OfMutex}
+use Rattle.c_rules.specs.Uses.{of_expr, of_place}
 use Rattle.c_rules.specs.Objects.{is_active, has_active}
 use Rattle.c_acts.specs.declared.first.Break.{Break}
 use Rattle.c_acts.specs.Uses.{Around, uses_breaks}
@@ -22,6 +23,7 @@ node a now u late (Declare line name value) = declare_breaks a now line name val
 node a now u late (If line test x y) = uses_breaks a now line (of_expr test)
 node a now u late (While line test x) = uses_breaks a now line (of_expr test)
 node a now u late (For line part test step body) = uses_breaks a (with_names (locals_of part) now) line (of_expr test)
+node a now u late (TryLock line place x y) = uses_breaks a now line (of_place OfMutex place)
 node a now u late s = act_breaks a now u late s
 
 -- what a statement breaks that stands inside another
@@ -32,10 +34,10 @@ pub scope_more : (names scope : List (List ℕ)) → with_names names (mentions 
 scope_more names scope = same_tests _ _ (λ n. sym (list_any-append (bytes_eq n) names scope))
 
 module _ (a : Around) (late : Bool) where
-  if_eq : (scope : List (List ℕ)) (x y : Stmts) (us : List Break) → list_breaks a (mentions scope) late x ≡ flat_map (nested a late) (listed scope x)
+  arms_eq : (scope : List (List ℕ)) (x y : Stmts) (us : List Break) → list_breaks a (mentions scope) late x ≡ flat_map (nested a late) (listed scope x)
       → list_breaks a (mentions scope) late y ≡ flat_map (nested a late) (listed scope y)
       → list_breaks a (mentions scope) late x ++ (list_breaks a (mentions scope) late y ++ us) ≡ flat_map (nested a late) (listed scope x ++ listed scope y) ++ us
-  if_eq scope x y us p q =
+  arms_eq scope x y us p q =
       ap (λ z. z ++ (list_breaks a (mentions scope) late y ++ us)) p ∙ ap (λ z. flat_map (nested a late) (listed scope x) ++ (z ++ us)) q
       ∙ sym (append_assoc (flat_map (nested a late) (listed scope x)) (flat_map (nested a late) (listed scope y)) us)
       ∙ ap (λ z. z ++ us) (sym (flat_append (nested a late) (listed scope x) (listed scope y)))
@@ -69,11 +71,13 @@ module _ (a : Around) (late : Bool) where
 
 mutual
   pub stmt_eq : (a : Around) (late u : Bool) (scope : List (List ℕ)) (s : Stmt) → stmt_breaks a (mentions scope) u late s ≡ flat_map (nested a late) (inside scope s) ++ node a (mentions scope) u late s
-  stmt_eq a late u scope (If line test x y) = if_eq a late scope x y (uses_breaks a (mentions scope) line (of_expr test)) (list_eq a late scope x) (list_eq a late scope y)
+  stmt_eq a late u scope (If line test x y) = arms_eq a late scope x y (uses_breaks a (mentions scope) line (of_expr test)) (list_eq a late scope x) (list_eq a late scope y)
   stmt_eq a late u scope (While line test x) = ap (λ z. z ++ uses_breaks a (mentions scope) line (of_expr test)) (list_eq a late scope x)
   stmt_eq a late u scope (For line part test step body) =
       for_eq a late scope (locals_of part ++ scope) part step body (with_names (locals_of part) (mentions scope)) (uses_breaks a (with_names (locals_of part) (mentions scope)) line (of_expr test))
       (scope_more (locals_of part) scope) (list_eq a late scope part) (list_eq a late (locals_of part ++ scope) step) (list_eq a late (locals_of part ++ scope) body)
+  stmt_eq a late u scope (TryLock line place x y) =
+      arms_eq a late scope x y (uses_breaks a (mentions scope) line (of_place OfMutex place)) (list_eq a late scope x) (list_eq a late scope y)
   stmt_eq a late u scope s = refl
 
   pub list_eq : (a : Around) (late : Bool) (scope : List (List ℕ)) (ss : Stmts) → list_breaks a (mentions scope) late ss ≡ flat_map (nested a late) (listed scope ss)

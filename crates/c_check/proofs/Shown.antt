@@ -10,7 +10,7 @@ use Rattle.c_tree.specs.declared.stmt.Act.TheOpen as act_open
 use Rattle.c_tree.specs.declared.stmt.Act.TheFolds.{fold-roll-Act, fold_out-Stmt}
 use Rattle.c_tree.specs.Expressions.{expr_of, value_of, place_of}
 use Rattle.c_tree.specs.Lined as lined
-use Rattle.c_tree.specs.Lined.{Declare, If, While, For, Create, Join, act_layer, stmt_layer, stmt_of, stmts_of}
+use Rattle.c_tree.specs.Lined.{Declare, If, While, For, TryLock, Create, Join, act_layer, stmt_layer, stmt_of, stmts_of}
 
 pub declare_of : (given : declared_stmt.Stmt) (name : List ℕ) (value : Option declared.Expr) → given.act ≡ act.Declare name value → stmt_of given ≡ Declare given.line name (value_of value)
 declare_of given name value is =
@@ -38,6 +38,13 @@ for_of given first_part test step body is =
     fold_out-Stmt (ℕ → lined.Stmt) lined.Stmt act_layer stmt_layer given
     ∙ ap (λ a. fold-Act (ℕ → lined.Stmt) lined.Stmt act_layer stmt_layer a given.line) (is ∙ sym (act.rolls-For first_part test step body))
     ∙ ap (λ f. f given.line) (fold-roll-Act (ℕ → lined.Stmt) lined.Stmt act_layer stmt_layer (act_open.For first_part test step body))
+
+pub try_of : (given : declared_stmt.Stmt) (place : declared_place.Place) (taken busy : List declared_stmt.Stmt) → given.act ≡ act.TryLock place taken busy
+    → stmt_of given ≡ TryLock given.line (place_of place) (stmts_of taken) (stmts_of busy)
+try_of given place taken busy is =
+    fold_out-Stmt (ℕ → lined.Stmt) lined.Stmt act_layer stmt_layer given
+    ∙ ap (λ a. fold-Act (ℕ → lined.Stmt) lined.Stmt act_layer stmt_layer a given.line) (is ∙ sym (act.rolls-TryLock place taken busy))
+    ∙ ap (λ f. f given.line) (fold-roll-Act (ℕ → lined.Stmt) lined.Stmt act_layer stmt_layer (act_open.TryLock place taken busy))
 
 pub create_of : (given : declared_stmt.Stmt) (slot : declared_place.Place) (function : List ℕ) (arg : declared.Expr) → given.act ≡ act.Create slot function arg
     → stmt_of given ≡ Create given.line (place_of slot) function (expr_of arg)

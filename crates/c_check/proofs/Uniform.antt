@@ -2,7 +2,7 @@
 use Rattle.std.proofs.Common.{◌≡◌, ◌&&◌, List, [], ◌++◌, refl, sym, ap, ◌∙◌, append-nil}
 use Rattle.std.specs.Prelude.{flat_map}
 use Rattle.c_tree.specs.declared.program.Mode.{Mode}
-use Rattle.c_tree.specs.Lined.{Stmt, Declare, Call, For, Print, Create, Join, InitMutex, InitCond, Take, Give, Program, line_of}
+use Rattle.c_tree.specs.Lined.{Stmt, Declare, Call, For, Print, Create, Join, InitMutex, InitCond, Wait, Take, Give, Program, line_of}
 use Rattle.c_rules.specs.declared.rule.Rule.TheVariants.{Reserved, Twice, WrongCount, Recursion, CreateNotFixed, JoinNotFixed, ArgNotConstant, InitLate, IndexRange}
 use Rattle.c_rules.specs.Names.{mentions, is_reserved}
 use Rattle.c_rules.specs.Declarations.{declaration_of}
@@ -77,6 +77,7 @@ ruled p mode site (Join line slot) =
     last_nil (use_rules p mode site') (break_if (is_unfixed_join p site' site'.stmt) JoinNotFixed line)
 ruled p mode site (InitMutex line place) = last_nil (use_rules p mode (at site (InitMutex line place))) (break_if (late_at site) InitLate line)
 ruled p mode site (InitCond line place) = last_nil (use_rules p mode (at site (InitCond line place))) (break_if (late_at site) InitLate line)
+ruled p mode site (Wait line cond mutex takes) = refl
 ruled p mode site (Take line monitor) = refl
 ruled p mode site (Give line monitor) = refl
 ruled p mode site s = with_nil (use_rules p mode (at site s))

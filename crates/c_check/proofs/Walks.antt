@@ -6,11 +6,12 @@ use Rattle.std.proofs.lemmas.List.{drop_more, drop_all, length-take}
 use Rattle.std.proofs.lemmas.List.Folds.{list_any-append}
 use denote.Ref.{Bor}
 use Rattle.c_tree.specs.declared.stmt.Stmt as declared_stmt
-use Rattle.c_tree.specs.Expressions.{Expr}
-use Rattle.c_tree.specs.Lined.{Stmt, Stmts, Declare, If, While, For, stmt_of, stmts_of}
+use Rattle.c_tree.specs.Expressions.{Expr, Place}
+use Rattle.c_tree.specs.Lined.{Stmt, Stmts, Declare, If, While, For, TryLock, stmt_of, stmts_of}
 use Rattle.c_rules.specs.Names.{mentions}
 use Rattle.c_rules.specs.Sites.{declared, locals_of}
-use Rattle.c_rules.specs.Uses.{of_expr, of_value}
+use Rattle.c_rules.specs.declared.role.Role.TheVariants.{OfMutex}
+use Rattle.c_rules.specs.Uses.{of_expr, of_value, of_place}
 use Rattle.c_acts.specs.declared.first.Break.{Break}
 use Rattle.c_acts.specs.First.{noted_all}
 use Rattle.c_acts.specs.Uses.{Around, uses_breaks}
@@ -40,6 +41,15 @@ module _ (a : Around) where
       noted_both f g k (list_breaks a inside late x) (list_breaks a inside late y ++ uses_breaks a inside line (of_expr test)) p
       (noted_both g h k (list_breaks a inside late y) (uses_breaks a inside line (of_expr test))
       (q ∙ ap (λ i. noted_all g (list_breaks a i late y)) i1) (r ∙ ap (λ i. noted_all h (uses_breaks a i line (of_expr test))) i2))
+      ∙ ap (λ z. noted_all f (nest_breaks a inside late z)) (sym is)
+
+  pub try_stmt : (inside in1 in2 : Names) (late : Bool) (f g h k : Option Break) (s : Stmt) (line : ℕ) (place : Place) (x y : Stmts) → s ≡ TryLock line place x y
+      → in1 ≡ inside → in2 ≡ inside → g ≡ noted_all f (list_breaks a inside late x) → h ≡ noted_all g (list_breaks a in1 late y) → k ≡ noted_all h (uses_breaks a in2 line (of_place OfMutex place))
+      → k ≡ noted_all f (nest_breaks a inside late s)
+  try_stmt inside in1 in2 late f g h k s line place x y is i1 i2 p q r =
+      noted_both f g k (list_breaks a inside late x) (list_breaks a inside late y ++ uses_breaks a inside line (of_place OfMutex place)) p
+      (noted_both g h k (list_breaks a inside late y) (uses_breaks a inside line (of_place OfMutex place))
+      (q ∙ ap (λ i. noted_all g (list_breaks a i late y)) i1) (r ∙ ap (λ i. noted_all h (uses_breaks a i line (of_place OfMutex place))) i2))
       ∙ ap (λ z. noted_all f (nest_breaks a inside late z)) (sym is)
 
   pub while_stmt : (inside in1 : Names) (late : Bool) (f g k : Option Break) (s : Stmt) (line : ℕ) (test : Expr) (x : Stmts) → s ≡ While line test x

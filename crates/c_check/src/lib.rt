@@ -12,8 +12,6 @@ mod outer;
 mod own;
 mod slots;
 mod table;
-#[cfg(test)]
-mod tests;
 mod walk;
 mod written;
 

@@ -56,6 +56,7 @@ pub fn acts(s: &Stmt) -> bool
         | Act::Create { .. }
         | Act::Join { .. }
         | Act::Lock { .. }
+        | Act::TryLock { .. }
         | Act::Unlock { .. }
         | Act::Wait { .. }
         | Act::Signal { .. }
@@ -152,6 +153,7 @@ fn is_unfixed(at: &Inside, scope: &Scope, main: bool, past: &Past, s: &Stmt) -> 
         | Act::InitMutex { .. }
         | Act::InitCond { .. }
         | Act::Lock { .. }
+        | Act::TryLock { .. }
         | Act::Unlock { .. }
         | Act::Wait { .. }
         | Act::Signal { .. }

@@ -37,7 +37,7 @@ fn place_of(p: &Program, name: &[u8]) -> u32
     requires { length p.now.functions < 1000000 }
     ensures { result ≡ spec.place_of (bare_program (program_of p.now)) name.now }
 {
-    p.find_function(name).unwrap_or(0)
+    p.find_function(name).unwrap_or(0) as u32
 }
 
 /// Main's own list of statements; empty where there is no main.

@@ -10,8 +10,9 @@ ghost use Rattle.c_acts.specs.Uses.{around};
 ghost use Rattle.c_acts.specs.Acts as acts;
 ghost use Rattle.c_check.specs.Walk as spec;
 
-use c_acts::{Break, Inside, check_act, check_expr, check_local, check_value};
+use c_acts::{Break, Inside, check_act, check_expr, check_local, check_place, check_value};
 use c_names::{Scope, enter};
+use c_rules::Role;
 use c_tree::{Act, Expr, Stmt};
 use std::alloc::AllocError;
 
@@ -55,7 +56,7 @@ pub fn check_stmt<'p>(
             check_declare(at, scope, first, s.line, name.as_slice(), value)?;
             Ok(())
         }
-        Act::If { .. } | Act::While { .. } | Act::For { .. } => {
+        Act::If { .. } | Act::While { .. } | Act::For { .. } | Act::TryLock { .. } => {
             check_nest(at, scope, first, s, late)?;
             Ok(())
         }
@@ -81,8 +82,8 @@ pub fn check_stmt<'p>(
     }
 }
 
-/// Looks at an `if`, a `while` or a `for` with what it holds, and passes over other statements. The
-/// one error is want of memory.
+/// Looks at an `if`, a `while`, a `for` or a trylock with what it holds, and passes over other
+/// statements. The one error is want of memory.
 #[cycle(walk)]
 fn check_nest<'p>(
     at: &Inside<'_, 'p>,
@@ -122,6 +123,12 @@ fn check_nest<'p>(
             check_list(at, scope, first, body.as_slice(), late)?;
             check_expr(at, scope, first, s.line, test);
             scope.truncate(outer);
+            Ok(())
+        }
+        Act::TryLock { place, taken, busy } => {
+            check_list(at, scope, first, taken.as_slice(), late)?;
+            check_list(at, scope, first, busy.as_slice(), late)?;
+            check_place(at, scope, first, s.line, place, Role::OfMutex);
             Ok(())
         }
         _ => Ok(()),

@@ -5,7 +5,7 @@ use Rattle.c_lexer.specs.declared.token.Sign.TheVariants as s
 use Rattle.c_grammar.specs.Items.{What, Item, at, sign, name_of, cell_name}
 use Rattle.c_grammar.specs.Commas.{Commas}
 use Rattle.c_grammar.specs.Declarations as g
-use Rattle.c_grammar.specs.Declarations.{SpellsNumber, SpellsValue, SpellsCell, SpellsInitial, SpellsObject, SpellsPrototype, SpellsCapacities, SpellsParameter, SpellsParameters, SpellsVoid, SpellsHead}
+use Rattle.c_grammar.specs.Declarations.{SpellsValue, SpellsCell, SpellsInitial, SpellsObject, SpellsPrototype, SpellsParameter, SpellsParameters, SpellsVoid, SpellsHead}
 use Rattle.parse_laws.specs.Parser.{Parser, ◌>>=◌, pure, refuse, when}
 use Rattle.parse_laws.proofs.Sound.{Sound}
 use Rattle.parse_laws.proofs.Finds.{Reaches, Halts, pure_finds, commit_finds, none_finds, bind_finds, bind_reaches}

@@ -1,5 +1,5 @@
 -- The capacities and the heads of functions that are spelled are read, and what `int` and `void` begin.
-use Rattle.std.proofs.Common.{◌≡◌, ℕ, Bool, true, false, List, [], ◌∷◌, Option, Some, refl, sym, subst, inl, inr, ◌⊎◌}
+use Rattle.std.proofs.Common.{◌≡◌, ℕ, Bool, true, false, List, [], ◌∷◌, map, Option, Some, refl, sym, subst, inl, inr, ◌⊎◌}
 use Rattle.c_lexer.specs.declared.token.Sign.{Sign}
 use Rattle.c_lexer.specs.declared.token.Sign.TheVariants as s
 use Rattle.c_tree.specs.declared.program.Kind.TheVariants as kind
@@ -8,7 +8,9 @@ use Rattle.c_grammar.specs.declared.words.FixedWord.TheVariants as w
 use Rattle.c_grammar.specs.Items.{What, Item, at, sign, fixed, name_of, cell_name, function_name, spelling}
 use Rattle.c_grammar.specs.Commas.{Commas, one, more as next}
 use Rattle.c_grammar.specs.Declarations as g
-use Rattle.c_grammar.specs.Declarations.{SpellsNumber, SpellsPrototype, SpellsCapacities, SpellsParameter, SpellsParameters, SpellsVoid, SpellsHead, SpellsCell}
+use Rattle.c_grammar.specs.Simple as simple
+use Rattle.c_grammar.specs.Simple.{SpellsNumber}
+use Rattle.c_grammar.specs.Declarations.{SpellsPrototype, SpellsWaitPrototype, SpellsParameter, SpellsParameters, SpellsVoid, SpellsHead, SpellsCell}
 use Rattle.parse_laws.specs.Parser.{Parser, ◌>>=◌, pure, refuse, Go, when, must}
 use Rattle.parse_laws.proofs.Finds.{Reaches, Halts, pure_finds, commit_finds, other_finds, bind_finds, bind_reaches}
 use Rattle.c_expressions.specs.Words.{same_sign, is_sign}
@@ -18,13 +20,13 @@ use Rattle.c_expressions.proofs.Found.{F, is_at, sign_finds}
 use Rattle.c_declarations.specs.declared.tree.Head.{Head}
 use Rattle.c_declarations.specs.declared.tree.Begun.{Begun}
 use Rattle.c_declarations.specs.declared.tree.Begun.TheVariants as begun
-use Rattle.c_declarations.specs.Parsers.{line, is_fixed, name, number, length_behind, alone, grown, more, braced, ended, numbers, prototype_end, prototype, capacities_of, capacity_values, prototypes, capacities, parameter, no_parameters_by, no_parameters, some_parameters, parameters_by, parameters, main_head, int_head, void_head, start_parameter, start_head, thread_head, void_by, head_behind_void, by_head, by_cells, by_capacities, cells_behind, head_or_cells, capacities_by, capacities_head, capacities_or_head, main_or_cells, function_or_cells, behind_int_by, behind_int}
+use Rattle.c_declarations.specs.Parsers.{line, is_fixed, name, number, length_behind, alone, grown, more, braced, ended, numbers, prototype_end, prototype, capacities_of, capacity_values, prototypes, capacities, parameter, no_parameters_by, no_parameters, some_parameters, parameters_by, parameters, main_head, int_head, void_head, start_parameter, start_head, thread_head, void_by, head_behind_void, by_head, by_cells, by_capacities, cells_behind, head_or_cells, capacities_by, capacities_head, capacities_or_head, main_or_cells, function_or_cells, behind_int_by, behind_int, wait_comes, wait_end, wait_behind_void, wait_prototype, wait_declared}
 use Rattle.c_declarations.specs.Shown.{ints_of, head_of}
 use Rattle.c_declarations.specs.Shown.{capacities_of as shown_capacities}
-use Rattle.c_declarations.specs.Spelled.{SpellsBehindInt}
+use Rattle.c_declarations.specs.Spelled.{SpellsMonitors, monitors, SpellsBehindInt}
 use Rattle.c_declarations.specs.declared.tree.Ints.{Ints}
 use Rattle.c_declarations.proofs.Shorter.{less_number, less_parameter}
-use Rattle.c_declarations.proofs.FoundLists.{word_finds, ended_finds, ended_behind, more_finds, commas_reach}
+use Rattle.c_declarations.proofs.FoundLists.{is_fixed_at, word_finds, ended_finds, ended_behind, more_finds, commas_reach}
 use Rattle.c_declarations.proofs.Found.{separates, name_finds, number_finds, length_finds, braced_finds, list_finds, cell_front, cells_behind_finds}
 
 -- no `(`
@@ -54,7 +56,7 @@ module _ {Token : Type 0} (v : Sight Token) where
   -- ---- the capacities
 
   number_found : (before after : List Item) (k : ℕ) → SpellsNumber before after k → at_head separates after → F v (number v) before after k
-  number_found _ after k (g.number {l = l}) c = number_finds v l k after
+  number_found _ after k (simple.number {l = l}) c = number_finds v l k after
 
   prototype_finds : (word : FixedWord) (before after : List Item) → SpellsPrototype word before after → F v (prototype v word) before after tt
   unfolding prototype prototype_end
@@ -68,11 +70,11 @@ module _ {Token : Type 0} (v : Sight Token) where
       (sign_finds v s.RightParenthesis (must (is v s.Semicolon) (pure tt)) h (sign k s.Semicolon ∷ after) after tt (sign_finds v s.Semicolon (pure tt) k after after tt (pure_finds v.item after tt)))))))
 
   -- behind `int gd_cap`
-  capacities_find : (first : Bool) (l : ℕ) {k m : ℕ} (before after : List Item) (c : g.Capacities) → SpellsCapacities (fixed k w.Int ∷ fixed m w.Capacities ∷ before) after c → first ≡ true
+  capacities_find : (first : Bool) (l : ℕ) {k m : ℕ} (before after : List Item) (c : g.Capacities) → SpellsMonitors (fixed k w.Int ∷ fixed m w.Capacities ∷ before) after c → first ≡ true
       → F v (capacities_or_head v first l m) before after (begun.Capacities (capacities_of c.line c.len c.values))
   unfolding capacities_or_head capacities capacity_values prototypes numbers same_sign
   capacities_find first l {k} {m} before after _
-      (g.capacities {n = n} {i = i} {j = j} {g = h} {h = b} {d = d} {e = e} {len = len} {ts = ts} {mid = mid} {next = third} {all = all} x y z) f =
+      (monitors {n = n} {i = i} {j = j} {o = h} {h = b} {d = d} {e = e} {len = len} {ts = ts} {mid = mid} {next = third} {all = all} x y z) f =
       commit_finds v.item (capacities_by v first m) (capacities_head v l) (sign n s.LeftBracket) (at i (What.Number len) ∷ sign j s.RightBracket ∷ sign h s.Assign ∷ sign b s.LeftBrace ∷ ts) after
       (begun.Capacities (capacities_of m len all))
       (λ u q. (
@@ -101,6 +103,26 @@ module _ {Token : Type 0} (v : Sight Token) where
           bind_finds v.item (length_behind v) (λ len. capacity_values v >>= λ all. prototypes v >>= λ _. pure (capacities_of m len all)) (at i (What.Number len) ∷ sign j s.RightBracket ∷ sign h s.Assign ∷ sign b s.LeftBrace ∷ ts)
           (sign h s.Assign ∷ sign b s.LeftBrace ∷ ts) after len (capacities_of m len all) (length_finds v i j len (sign h s.Assign ∷ sign b s.LeftBrace ∷ ts)) behind_length
 
+  -- the declaration of `gd_cond_wait` begins so
+  waits : (a b c d : ℕ) (later : List Item) (ts : List Token) → map v.item ts ≡ fixed a w.Void ∷ fixed b w.ControlledWait ∷ sign c s.LeftParenthesis ∷ fixed d w.Condition ∷ later → wait_comes v ts ≡ true
+  waits a b c d later [] e = absurd cc
+  waits a b c d later (t1 ∷ []) e = absurd cc
+  waits a b c d later (t1 ∷ t2 ∷ []) e = absurd cc
+  waits a b c d later (t1 ∷ t2 ∷ t3 ∷ []) e = absurd cc
+  waits a b c d later (t1 ∷ t2 ∷ t3 ∷ t4 ∷ ts) e = rw (is_fixed_at v w.Void a t1 cc, is_fixed_at v w.ControlledWait b t2 cc, is_at v s.LeftParenthesis c t3 cc, is_fixed_at v w.Condition d t4 cc) refl
+
+  -- it is read, where no other comes behind it
+  pub wait_declared_finds : (before after : List Item) → SpellsWaitPrototype before after → ((rest : List Token) → map v.item rest ≡ after → wait_comes v rest ≡ false) → F v (wait_declared v) before after tt
+  unfolding wait_declared wait_prototype wait_behind_void wait_end
+  wait_declared_finds before _ g.absent calm = λ ts e. (ts, e, rw (calm ts e) refl)
+  wait_declared_finds before after (g.present {a = a} {b = b} {c = c} {d = d}) calm = λ ts e. let y = whole ts e in (y.0, y.1, rw (waits a b c d _ ts e) y.2)
+    where
+      whole : F v (wait_prototype v) before after tt
+      whole =
+          word_finds v w.Void _ _ _ _ _ (word_finds v w.ControlledWait _ _ _ _ _ (sign_finds v s.LeftParenthesis _ _ _ _ _ (word_finds v w.Condition _ _ _ _ _ (sign_finds v s.Star _ _ _ _ _ (word_finds v w.ConditionParameter _ _ _ _ _
+          (sign_finds v s.Comma _ _ _ _ _ (word_finds v w.Mutex _ _ _ _ _ (sign_finds v s.Star _ _ _ _ _ (word_finds v w.MutexParameter _ _ _ _ _ (sign_finds v s.Comma _ _ _ _ _ (sign_finds v s.Ellipsis _ _ _ _ _
+          (sign_finds v s.RightParenthesis _ _ _ _ _ (sign_finds v s.Semicolon (pure tt) _ _ _ _ (pure_finds v.item after tt))))))))))))))
+
   -- ---- heads
 
   parameter_found : (before after : List Item) (n : List ℕ) → SpellsParameter before after n → at_head separates after → F v (parameter v) before after n
@@ -119,7 +141,7 @@ module _ {Token : Type 0} (v : Sight Token) where
       (commas_reach v (less_parameter v) grown (λ x. x) SpellsParameter separates refl parameter_found (λ all. all) (λ all x. refl) (name v >>= λ n. more v (parameter v) grown (alone n)) (fixed l w.Int ∷ before) before
       (λ after x i c. first_reaches before after x i) d refl) refl)
 
-  parameters_front : {before after : List Item} {all : List (List ℕ)} → Commas SpellsParameter before after all → (l : ℕ) × (ts : List Item) × (before ≡ fixed l w.Int ∷ ts)
+  pub parameters_front : {before after : List Item} {all : List (List ℕ)} → Commas SpellsParameter before after all → (l : ℕ) × (ts : List Item) × (before ≡ fixed l w.Int ∷ ts)
   parameters_front (one (g.parameter {l = l} {m = m} {a = a} {rest = rest} d)) = (l, at m a ∷ rest, refl)
   parameters_front (next d i) = parameters_front d
 
@@ -292,13 +314,13 @@ module _ {Token : Type 0} (v : Sight Token) where
       go j a n ts p q = step j a n ts (int_head v l n) p q (named_goes (function_or_cells v holds l j) (name_of a) n q)
 
   -- the capacities
-  int_capacities_find : (holds : ℕ → Bool) (first : Bool) (l : ℕ) (before after : List Item) (c : g.Capacities) → SpellsCapacities (fixed l w.Int ∷ before) after c → first ≡ true
+  int_capacities_find : (holds : ℕ → Bool) (first : Bool) (l : ℕ) (before after : List Item) (c : g.Capacities) → SpellsMonitors (fixed l w.Int ∷ before) after c → first ≡ true
       → F v (behind_int v holds first l) before after (begun.Capacities (capacities_of c.line c.len c.values))
   unfolding behind_int
-  int_capacities_find holds first l before after c (g.capacities {m = m} {n = n} {i = i} {j = j} {g = h} {h = b} {len = len} {ts = ts} x y z) f =
+  int_capacities_find holds first l before after c (monitors {m = m} {n = n} {i = i} {j = j} {o = h} {h = b} {len = len} {ts = ts} x y z) f =
       commit_finds v.item (λ u. behind_int_by v holds first l (line v u) (seen v u)) refuse (fixed m w.Capacities) (sign n s.LeftBracket ∷ at i (What.Number len) ∷ sign j s.RightBracket ∷ sign h s.Assign ∷ sign b s.LeftBrace ∷ ts) after
       (begun.Capacities (capacities_of c.line c.len c.values))
-      (λ u e. (capacities_or_head v first l m, rw e refl, capacities_find first l {k = l} {m = m} (sign n s.LeftBracket ∷ at i (What.Number len) ∷ sign j s.RightBracket ∷ sign h s.Assign ∷ sign b s.LeftBrace ∷ ts) after c (g.capacities x y z) f))
+      (λ u e. (capacities_or_head v first l m, rw e refl, capacities_find first l {k = l} {m = m} (sign n s.LeftBracket ∷ at i (What.Number len) ∷ sign j s.RightBracket ∷ sign h s.Assign ∷ sign b s.LeftBrace ∷ ts) after c (monitors x y z) f))
 
   -- whatever stands behind `int`
   pub behind_int_finds : (holds : ℕ → Bool) → ((k : ℕ) → holds k ≡ true) → (first : Bool) (l : ℕ) (before after : List Item) (x : Begun) → SpellsBehindInt first l before after x → F v (behind_int v holds first l) before after x

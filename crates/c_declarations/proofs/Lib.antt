@@ -7,4 +7,5 @@ pub mod Found
 pub mod FoundObjects
 pub mod FoundHeads
 pub mod Viable
+pub mod Waits
 pub mod Same

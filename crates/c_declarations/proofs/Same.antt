@@ -7,7 +7,7 @@ use Rattle.c_grammar.specs.declared.words.FixedWord.{FixedWord}
 use Rattle.c_grammar.specs.declared.words.FixedWord.TheVariants as w
 use Rattle.c_grammar.specs.Items.{What, Item, at, name_of, cell_name, function_name, spelling}
 use Rattle.parse_laws.specs.Parser.{Parser, ◌>>=◌, pure, Move, Stop, Go, when, must, separated}
-use Rattle.parse_laws.proofs.Alike.{Ways, Alike, AlikeMove, AlikeMoves, Stays, alike_moves, pure_alike, commit_alike, choice_alike, option_alike, when_alike, test_alike, must_alike, bind_alike, many_alike, separated_alike}
+use Rattle.parse_laws.proofs.Alike.{Ways, Along, ended as all_ended, token, barred, Alike, AlikeMove, AlikeMoves, AlikeTest, Stays, alike_moves, pure_alike, commit_alike, choice_alike, option_alike, when_alike, test_alike, must_alike, bind_alike, many_alike, separated_alike}
 use Rattle.c_expressions.specs.Words.{is_sign}
 use Rattle.c_expressions.specs.Parsers.{Sight, what_at, seen, is, go_named, named}
 use Rattle.c_expressions.proofs.Same as same
@@ -17,7 +17,7 @@ use Rattle.c_declarations.specs.declared.tree.Sort.TheVariants as sort
 use Rattle.c_declarations.specs.declared.tree.Head.{Head}
 use Rattle.c_declarations.specs.declared.tree.Begun.TheVariants as begun
 use Rattle.c_declarations.specs.Words.{is_word, number_of, held, line_in, initial_word}
-use Rattle.c_declarations.specs.Parsers.{line, is_fixed, go_with, name, number, length_behind, alone, grown, comma, more, commas, braced, ended, negative, value_by, value, values, scalar, several, array_end, array_behind, scalar_behind, cell_by, cell_behind, cell, no_ints, with_declared, more_cells, cells_behind, is_ready, initial, counted, initials, object_of, ready_by, objects_end, objects_behind, ready_object, object_by, object_behind, object, objects, numbers, prototype_end, prototype, capacities_of, capacity_values, prototypes, capacities, parameter, no_parameters_by, no_parameters, some_parameters, parameters_by, parameters, main_head, int_head, void_head, start_parameter, start_head, thread_head, void_by, head_behind_void, by_head, by_cells, by_capacities, capacities_by, capacities_head, capacities_or_head, head_or_cells, function_or_cells, behind_int_by, behind_int}
+use Rattle.c_declarations.specs.Parsers.{line, is_fixed, go_with, name, number, length_behind, alone, grown, comma, more, commas, braced, ended, negative, value_by, value, values, scalar, several, array_end, array_behind, scalar_behind, cell_by, cell_behind, cell, no_ints, with_declared, more_cells, cells_behind, is_ready, initial, counted, initials, object_of, ready_by, objects_end, objects_behind, ready_object, object_by, object_behind, object, objects, numbers, prototype_end, prototype, capacities_of, capacity_values, prototypes, capacities, parameter, no_parameters_by, no_parameters, some_parameters, parameters_by, parameters, main_head, int_head, void_head, start_parameter, start_head, thread_head, void_by, head_behind_void, by_head, by_cells, by_capacities, capacities_by, capacities_head, capacities_or_head, head_or_cells, function_or_cells, behind_int_by, behind_int, is_at, comes_then, type_comes, open_comes, word_comes, wait_comes, wait_end, wait_behind_void, wait_prototype, wait_declared}
 
 module _ {One Two : Type 0} (v : Sight One) (z : Sight Two) (like : Like v z) (Later : List One → List Two → Type 0) (long : (x : List One) (y : List Two) → Later x y → length x ≡ length y) where
   abbrev pub ways : Ways One Two Item
@@ -265,6 +265,40 @@ module _ {One Two : Type 0} (v : Sight One) (z : Sight Two) (like : Like v z) (L
       bind_alike ways (length_behind v) (length_behind z) (λ len. capacity_values v >>= λ all. prototypes v >>= λ _. pure (capacities_of l len all)) (λ len. capacity_values z >>= λ all. prototypes z >>= λ _. pure (capacities_of l len all)) length_same
       (λ len. bind_alike ways (capacity_values v) (capacity_values z) (λ all. prototypes v >>= λ _. pure (capacities_of l len all)) (λ all. prototypes z >>= λ _. pure (capacities_of l len all)) capacity_values_same
       (λ all. made_same (prototypes v) (prototypes z) (λ x. capacities_of l len all) prototypes_same))
+
+  -- ---- the declaration of `gd_cond_wait`
+
+  module _ {k : One → Bool} {m : Two → Bool} (test : AlikeTest ways k m) where
+    at_same : (x : List One) (y : List Two) → Along ways x y → is_at k x ≡ is_at m y
+    at_same _ _ all_ended = refl
+    at_same _ _ (token {u = u} {t = t} e c h) = test.same u t e
+    at_same _ _ (barred {u = u} {t = t} e b h) = test.same u t e
+
+    then_same : (p : List One → Bool) (q : List Two → Bool) → ((x : List One) (y : List Two) → Along ways x y → p x ≡ q y) → (x : List One) (y : List Two) → Along ways x y → comes_then k p x ≡ comes_then m q y
+    then_same p q more _ _ all_ended = refl
+    then_same p q more _ _ (token {u = u} {t = t} {x = x} {y = y} e c h) = rw (test.same u t e, more x y h) refl
+    then_same p q more _ _ (barred {u = u} {t = t} e b h) = rw (test.same u t e, test.passes t b) refl
+
+  word_test : (x : FixedWord) → AlikeTest ways (is_fixed v x) (is_fixed z x)
+  word_test x = same.test_by_what v z like Later long (is_word x) refl refl
+
+  wait_comes_same : (x : List One) (y : List Two) → Along ways x y → wait_comes v x ≡ wait_comes z y
+  wait_comes_same =
+      then_same (word_test w.Void) (word_comes v) (word_comes z) (then_same (word_test w.ControlledWait) (open_comes v) (open_comes z) (then_same (same.is_same v z like Later long s.LeftParenthesis) (type_comes v) (type_comes z) (at_same (word_test w.Condition))))
+
+  wait_prototype_same : S (wait_prototype v) (wait_prototype z)
+  unfolding wait_prototype wait_behind_void wait_end
+  wait_prototype_same =
+      word_same w.Void _ _ (word_same w.ControlledWait _ _ (sign_same s.LeftParenthesis _ _ (word_same w.Condition _ _ (sign_same s.Star _ _ (word_same w.ConditionParameter _ _ (sign_same s.Comma _ _ (word_same w.Mutex _ _ (sign_same s.Star _ _
+      (word_same w.MutexParameter _ _ (sign_same s.Comma _ _ (sign_same s.Ellipsis _ _ (sign_same s.RightParenthesis _ _ (sign_same s.Semicolon (pure tt) (pure tt) (pure_alike ways tt))))))))))))))
+
+  pub wait_declared_same : S (wait_declared v) (wait_declared z)
+  unfolding wait_declared
+  wait_declared_same = λ x y h. rw (wait_comes_same x y h) (go (wait_comes z y) x y h)
+    where
+      go : (b : Bool) → S (cond b (wait_prototype v) (pure tt)) (cond b (wait_prototype z) (pure tt))
+      go true = wait_prototype_same
+      go false = pure_alike ways tt
 
   -- ---- heads
 

@@ -1,18 +1,18 @@
 -- No parser of this crate takes a token back, so the bound on the turns of its loops is never met.
-use Rattle.std.proofs.Common.{ℕ, Bool, true, false, cond, List, Option, Some, None}
+use Rattle.std.proofs.Common.{◌≡◌, ℕ, Bool, true, false, cond, List, Option, Some, None}
 use Rattle.c_lexer.specs.declared.token.Sign.{Sign}
 use Rattle.c_lexer.specs.declared.token.Sign.TheVariants as s
 use Rattle.c_grammar.specs.declared.words.FixedWord.{FixedWord}
 use Rattle.c_grammar.specs.declared.words.FixedWord.TheVariants as w
 use Rattle.c_grammar.specs.Items.{What, name_of, cell_name, function_name, spelling}
-use Rattle.parse_laws.specs.Parser.{Parser, Move, Stop, Go, when, separated, expect}
+use Rattle.parse_laws.specs.Parser.{Got, Parser, pure, Move, Stop, Go, when, separated, expect}
 use Rattle.parse_laws.proofs.Sound.{Sound, SoundMove, stop_sound, go_sound}
 use Rattle.c_expressions.specs.Parsers.{Sight, seen, is, go_named}
 use Rattle.c_expressions.proofs.Shorter.{Less, less_pure, less_commit, less_choice, less_when, less_bind, less_must, less_then, less_loop}
 use Rattle.c_declarations.specs.declared.tree.Sort.{Sort}
 use Rattle.c_declarations.specs.declared.tree.Head.{Head}
 use Rattle.c_declarations.specs.Words.{number_of, held}
-use Rattle.c_declarations.specs.Parsers.{line, go_with, name, number, length_behind, alone, grown, more, braced, ended, negative, value, values, array_end, array_behind, scalar_behind, cell_behind, cell, no_ints, with_declared, cells_behind, is_ready, is_initial, initial, counted, initials, ready_by, objects_end, objects_behind, ready_object, object_behind, object, objects, numbers, prototype_end, prototype, capacity_values, prototypes, capacities, parameter, no_parameters_by, no_parameters, some_parameters, parameters_by, parameters, main_head, int_head, void_head, start_parameter, start_head, thread_head, head_behind_void, by_capacities, head_or_cells, capacities_or_head, behind_int_by, behind_int}
+use Rattle.c_declarations.specs.Parsers.{line, go_with, name, number, length_behind, alone, grown, more, braced, ended, negative, value, values, array_end, array_behind, scalar_behind, cell_behind, cell, no_ints, with_declared, cells_behind, is_ready, is_initial, initial, counted, initials, ready_by, objects_end, objects_behind, ready_object, object_behind, object, objects, numbers, prototype_end, prototype, capacity_values, prototypes, capacities, parameter, no_parameters_by, no_parameters, some_parameters, parameters_by, parameters, main_head, int_head, void_head, start_parameter, start_head, thread_head, head_behind_void, by_capacities, head_or_cells, capacities_or_head, behind_int_by, behind_int, wait_comes, wait_end, wait_behind_void, wait_prototype, wait_declared}
 
 module _ {Token : Type 0} where
   less_with : {A B : Type 0} {p : B → Parser Token A} (x : Option B) → ((b : B) → Sound (p b) Less) → SoundMove Less (go_with p x)
@@ -166,6 +166,18 @@ module _ {Token : Type 0} (v : Sight Token) where
   less_capacities : (l : ℕ) → Sound (capacities v l) Less
   unfolding capacities
   less_capacities l = less_bind less_length (λ len. less_bind less_capacity_values (λ all. less_bind less_prototypes (λ x. less_pure)))
+
+  less_wait_prototype : Sound (wait_prototype v) Less
+  unfolding wait_prototype wait_behind_void wait_end
+  less_wait_prototype = less_must _ (less_must _ (less_must _ (less_must _ (less_must _ (less_must _ (less_must _ (less_must _ (less_must _ (less_must _ (less_must _ (less_must _ (less_must _ (less_must _ less_pure)))))))))))))
+
+  pub less_wait_declared : Sound (wait_declared v) Less
+  unfolding wait_declared
+  less_wait_declared = record { spelled = λ ts x rest e. go (wait_comes v ts) ts x rest e }
+    where
+      go : (b : Bool) (ts : List Token) (x : Unit {0}) (rest : List Token) → cond b (wait_prototype v) (pure tt) ts ≡ Got x rest → Less ts rest x
+      go true ts x rest e = less_wait_prototype.spelled ts x rest e
+      go false ts x rest e = less_pure.spelled ts x rest e
 
   -- ---- heads
 

@@ -12,8 +12,10 @@ use Rattle.c_grammar.specs.Items.{What, Item, at, sign, fixed, name_of, cell_nam
 use Rattle.c_grammar.specs.Commas.{Commas}
 use Rattle.c_grammar.specs.Commas as g_commas
 use Rattle.c_grammar.specs.Declarations as g
-use Rattle.c_grammar.specs.Declarations.{SpellsNumber, SpellsValue, SpellsCell, SpellsInitial, SpellsObject, SpellsPrototype, SpellsCapacities, SpellsParameter, SpellsParameters, SpellsVoid, SpellsHead, scalars, arrays}
-use Rattle.parse_laws.specs.Parser.{Parser, Move, Stop, Go, when}
+use Rattle.c_grammar.specs.Simple as simple
+use Rattle.c_grammar.specs.Simple.{SpellsNumber}
+use Rattle.c_grammar.specs.Declarations.{SpellsValue, SpellsCell, SpellsInitial, SpellsObject, SpellsPrototype, SpellsWaitPrototype, SpellsParameter, SpellsParameters, SpellsVoid, SpellsHead, scalars, arrays}
+use Rattle.parse_laws.specs.Parser.{Got, Parser, pure, Move, Stop, Go, when}
 use Rattle.parse_laws.proofs.Sound.{Sound, SoundMove, stop_sound, go_sound, pure_sound, refuse_sound, sound_map, bind_sound, commit_sound, when_sound, token_sound, many_sound, separated_sound}
 use Rattle.c_expressions.specs.Words.{same_sign}
 use Rattle.c_expressions.specs.Parsers.{Sight, seen, is, go_named}
@@ -24,9 +26,9 @@ use Rattle.c_declarations.specs.declared.tree.Declared.{Declared}
 use Rattle.c_declarations.specs.declared.tree.Ints.{Ints}
 use Rattle.c_declarations.specs.declared.tree.Head.{Head}
 use Rattle.c_declarations.specs.Words.{same_word, number_of, held}
-use Rattle.c_declarations.specs.Parsers.{line, is_fixed, go_with, name, number, length_behind, alone, grown, comma, commas, braced, ended, negative, value, values, array_end, array_behind, scalar_behind, cell_behind, cell, no_ints, with_declared, cells_behind, is_initial, initial, counted, initials, ready_by, object_of, objects_end, objects_behind, ready_object, object_behind, object, objects, is_ready, numbers, prototype_end, prototype, capacity_values, prototypes, capacities, parameter, no_parameters_by, no_parameters, some_parameters, parameters_by, parameters, main_head, int_head, void_head, start_parameter, start_head, thread_head, head_behind_void, by_capacities, function_or_cells, head_or_cells, capacities_or_head, behind_int_by, behind_int}
+use Rattle.c_declarations.specs.Parsers.{line, is_fixed, go_with, name, number, length_behind, alone, grown, comma, commas, braced, ended, negative, value, values, array_end, array_behind, scalar_behind, cell_behind, cell, no_ints, with_declared, cells_behind, is_initial, initial, counted, initials, ready_by, object_of, objects_end, objects_behind, ready_object, object_behind, object, objects, is_ready, numbers, prototype_end, prototype, capacity_values, prototypes, capacities, parameter, no_parameters_by, no_parameters, some_parameters, parameters_by, parameters, main_head, int_head, void_head, start_parameter, start_head, thread_head, head_behind_void, by_capacities, function_or_cells, head_or_cells, capacities_or_head, behind_int_by, behind_int, wait_comes, wait_end, wait_behind_void, wait_prototype, wait_declared}
 use Rattle.c_declarations.specs.Shown.{declared_of, ints_of, sort_of, capacities_of, head_of}
-use Rattle.c_declarations.specs.Spelled.{SpellsInts, SpellsBehindInt}
+use Rattle.c_declarations.specs.Spelled.{SpellsInts, SpellsMonitors, monitors, SpellsBehindInt}
 use Rattle.c_declarations.proofs.Tokens.{item_at, sign_at, fixed_at, number_at, held_at, seen_at}
 
 -- ---- ints as they are gathered
@@ -106,7 +108,7 @@ module _ {Token : Type 0} (v : Sight Token) where
 
   number_sound : Sound (number v) (Over SpellsNumber)
   unfolding number
-  number_sound = commit_sound (λ u. with_sound (number_of (seen v u)) (λ k e. pure_sound (λ rest. rw (number_at v u k e) g.number))) refuse_sound
+  number_sound = commit_sound (λ u. with_sound (number_of (seen v u)) (λ k e. pure_sound (λ rest. rw (number_at v u k e) simple.number))) refuse_sound
 
   -- K ]
   abbrev pub Length : List Token → List Token → ℕ → Type 0
@@ -116,7 +118,7 @@ module _ {Token : Type 0} (v : Sight Token) where
   length_of ts mid rest u k p d e = go (items v ts) (items v mid) d (ap (items v) p ∙ ap (λ (t : Item). t ∷ items v rest) (sign_at v u s.RightBracket e))
     where
       go : (before after : List Item) → SpellsNumber before after k → after ≡ sign (line v u) s.RightBracket ∷ items v rest → (l : ℕ) × (m : ℕ) × (before ≡ at l (What.Number k) ∷ sign m s.RightBracket ∷ items v rest)
-      go before after (g.number {l = l}) q = (l, line v u, ap (λ (w : List Item). at l (What.Number k) ∷ w) q)
+      go before after (simple.number {l = l}) q = (l, line v u, ap (λ (w : List Item). at l (What.Number k) ∷ w) q)
 
   length_sound : Sound (length_behind v) Length
   unfolding length_behind
@@ -286,10 +288,27 @@ module _ {Token : Type 0} (v : Sight Token) where
 
   -- behind `int gd_cap [`
   capacities_sound : (l : ℕ) (u b : Token) → is_fixed v w.Capacities u ≡ true → is v s.LeftBracket b ≡ true
-      → Sound (capacities v (line v u)) (λ mid rest c. SpellsCapacities (fixed l w.Int ∷ v.item u ∷ v.item b ∷ items v mid) (items v rest) (capacities_of c))
+      → Sound (capacities v (line v u)) (λ mid rest c. SpellsMonitors (fixed l w.Int ∷ v.item u ∷ v.item b ∷ items v mid) (items v rest) (capacities_of c))
   unfolding capacities
   capacities_sound l u b d q = bind_sound length_sound (λ len. bind_sound capacity_values_sound (λ all. bind_sound prototypes_sound (λ x. pure_sound (λ rest next z mid y ts t.
-      rw (t.2, sign_at v b s.LeftBracket q, y.5, fixed_at v u w.Capacities d) (g.capacities y.6 z.1 z.2)))))
+      rw (t.2, sign_at v b s.LeftBracket q, y.5, fixed_at v u w.Capacities d) (monitors y.6 z.1 z.2)))))
+
+  wait_prototype_sound : Sound (wait_prototype v) (λ ts rest x. SpellsWaitPrototype (items v ts) (items v rest))
+  unfolding wait_prototype wait_behind_void wait_end
+  wait_prototype_sound =
+      token_sound (λ u1 e1. token_sound (λ u2 e2. token_sound (λ u3 e3. token_sound (λ u4 e4. token_sound (λ u5 e5. token_sound (λ u6 e6. token_sound (λ u7 e7. token_sound (λ u8 e8. token_sound (λ u9 e9. token_sound (λ u10 e10.
+      token_sound (λ u11 e11. token_sound (λ u12 e12. token_sound (λ u13 e13. token_sound (λ u14 e14. pure_sound (λ rest.
+      rw (fixed_at v u1 w.Void e1, fixed_at v u2 w.ControlledWait e2, sign_at v u3 s.LeftParenthesis e3, fixed_at v u4 w.Condition e4, sign_at v u5 s.Star e5, fixed_at v u6 w.ConditionParameter e6, sign_at v u7 s.Comma e7)
+      (rw (fixed_at v u8 w.Mutex e8, sign_at v u9 s.Star e9, fixed_at v u10 w.MutexParameter e10, sign_at v u11 s.Comma e11, sign_at v u12 s.Ellipsis e12, sign_at v u13 s.RightParenthesis e13, sign_at v u14 s.Semicolon e14) g.present))))))))))))))))
+
+  -- the declaration of `gd_cond_wait`, if it is there
+  pub wait_declared_sound : Sound (wait_declared v) (λ ts rest x. SpellsWaitPrototype (items v ts) (items v rest))
+  unfolding wait_declared
+  wait_declared_sound = record { spelled = λ ts x rest e. go ts x rest (wait_comes v ts) e }
+    where
+      go : (ts : List Token) (x : Unit {0}) (rest : List Token) (b : Bool) → cond b (wait_prototype v) (pure tt) ts ≡ Got x rest → SpellsWaitPrototype (items v ts) (items v rest)
+      go ts x rest true e = wait_prototype_sound.spelled ts x rest e
+      go ts x rest false e = let same : ts ≡ rest = cc in subst (λ (w : List Token). SpellsWaitPrototype (items v ts) (items v w)) same g.absent
 
   -- ---- heads
 

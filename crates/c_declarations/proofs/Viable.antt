@@ -6,8 +6,8 @@ use Rattle.c_tree.specs.declared.program.Kind.TheVariants as kind
 use Rattle.c_grammar.specs.declared.words.FixedWord.{FixedWord}
 use Rattle.c_grammar.specs.declared.words.FixedWord.TheVariants as w
 use Rattle.c_grammar.specs.Items.{What, name_of, cell_name, function_name, spelling}
-use Rattle.parse_laws.specs.Parser.{Parser, ◌>>=◌, pure, Move, Stop, Go, when, must, separated}
-use Rattle.parse_laws.proofs.Viable.{Viable, Follows, ViableMove, Takes, stop_move, go_move, when_move, pure_local, pure_viable, pure_follows, bind_viable, bind_follows, commit_local, fallback_viable, choice_viable, option_follows, follows_viable, must_viable, must_follows, must_takes, then_takes, first_takes}
+use Rattle.parse_laws.specs.Parser.{Parser, ◌>>=◌, pure, refuse, Move, Stop, Go, when, must, separated}
+use Rattle.parse_laws.proofs.Viable.{Viable, Follows, ViableMove, Takes, stop_move, go_move, when_move, pure_local, pure_viable, pure_follows, bind_viable, bind_follows, commit_local, commit_takes, fallback_viable, choice_viable, option_follows, follows_viable, must_viable, must_follows, must_takes, then_takes, first_takes}
 use Rattle.parse_laws.proofs.Loops.{many_follows}
 use Rattle.c_expressions.specs.Words.{same_sign, is_sign}
 use Rattle.c_expressions.specs.Parsers.{Sight, seen, is, go_named}
@@ -18,7 +18,7 @@ use Rattle.c_declarations.specs.declared.tree.Sort.TheVariants as sort
 use Rattle.c_declarations.specs.declared.tree.Head.{Head}
 use Rattle.c_declarations.specs.declared.tree.Begun.TheVariants as begun
 use Rattle.c_declarations.specs.Words.{number_of, held}
-use Rattle.c_declarations.specs.Parsers.{line, is_fixed, go_with, name, number, length_behind, alone, grown, more, commas, braced, ended, negative, value, values, array_end, array_behind, scalar_behind, cell_behind, cell, no_ints, with_declared, cells_behind, is_ready, is_initial, initial, counted, initials, ready_by, objects_end, objects_behind, ready_object, object_behind, object, objects, numbers, prototype_end, prototype, capacity_values, prototypes, capacities, parameter, no_parameters_by, no_parameters, some_parameters, parameters_by, parameters, main_head, int_head, void_head, start_parameter, start_head, thread_head, head_behind_void, by_head, by_cells, by_capacities, capacities_or_head, head_or_cells, behind_int_by, behind_int}
+use Rattle.c_declarations.specs.Parsers.{line, is_fixed, go_with, name, number, length_behind, alone, grown, more, commas, braced, ended, negative, value, values, array_end, array_behind, scalar_behind, cell_behind, cell, no_ints, with_declared, cells_behind, is_ready, is_initial, initial, counted, initials, ready_by, objects_end, objects_behind, ready_object, object_behind, object, objects, numbers, prototype_end, prototype, capacity_values, prototypes, capacities, parameter, no_parameters_by, no_parameters, some_parameters, parameters_by, parameters, main_head, int_head, void_head, start_parameter, start_head, thread_head, void_by, head_behind_void, by_head, by_cells, by_capacities, capacities_or_head, head_or_cells, behind_int_by, behind_int}
 use Rattle.c_declarations.proofs.FoundLists.{word_self}
 use Rattle.c_declarations.proofs.Found.{separates, no_sign_separates}
 
@@ -57,7 +57,7 @@ module _ {Token : Type 0} (v : Sight Token) where
   abbrev pub is_as : FixedWord → What → Type 0
   is_as word a = a ≡ What.Fixed word
 
-  word_at : (word : FixedWord) (u : Token) → seen v u ≡ What.Fixed word → is_fixed v word u ≡ true
+  pub word_at : (word : FixedWord) (u : Token) → seen v u ≡ What.Fixed word → is_fixed v word u ≡ true
   word_at word u e = rw e (word_self word)
 
   module _ {A : Type 0} {ends : Token → Bool} {r : ℕ} where
@@ -252,16 +252,20 @@ module _ {Token : Type 0} (v : Sight Token) where
     unfolding no_parameters
     no_parameters_viable = choice_viable (λ u. no_parameters_move (seen v u)) (words.sign signs.RightParenthesis) (λ s le. rw (words.sign_is signs.RightParenthesis) refl) (pure_viable {a = []})
 
-    parameters_viable : {ends : Token → Bool} {r : ℕ} → Viable ends r (λ s. parameters v)
+    parameters_move : {ends : Token → Bool} {r : ℕ} (u : Token) (a : What) → seen v u ≡ a → ViableMove ends r (λ s. parameters_by v a)
+    parameters_move u (What.Fixed w.Int) e = go_move (some_parameters_viable u e)
+    parameters_move u a e = no_parameters_move a
+
+    pub parameters_viable : {ends : Token → Bool} {r : ℕ} → Viable ends r (λ s. parameters v)
     unfolding parameters
-    parameters_viable {ends = ends} {r = r} = choice_viable (λ u. go u (seen v u) refl) (words.sign signs.RightParenthesis) (λ s le. rw (words.sign_is signs.RightParenthesis) refl) (pure_viable {a = []})
-      where
-        go : (u : Token) (a : What) → seen v u ≡ a → ViableMove ends r (λ s. parameters_by v a)
-        go u (What.Fixed w.Int) e = go_move (some_parameters_viable u e)
-        go u a e = no_parameters_move a
+    parameters_viable = choice_viable (λ u. parameters_move u (seen v u) refl) (words.sign signs.RightParenthesis) (λ s le. rw (words.sign_is signs.RightParenthesis) refl) (pure_viable {a = []})
+
+    pub parameters_take : (r : ℕ) → Takes (parameters v)
+    unfolding parameters
+    parameters_take r = commit_takes {ends = any} {r = r} (λ s. refuse) (λ u. parameters_move u (seen v u) refl) (λ ts a e. absurd cc)
 
     -- a part whose value is made into another
-    made_viable : {A B : Type 0} {ends : Token → Bool} {r : ℕ} {p : Parser Token A} (f : A → B) → Viable any r (λ s. p) → Viable ends r (λ s. p >>= λ x. pure (f x))
+    pub made_viable : {A B : Type 0} {ends : Token → Bool} {r : ℕ} {p : Parser Token A} (f : A → B) → Viable any r (λ s. p) → Viable ends r (λ s. p >>= λ x. pure (f x))
     made_viable f y = bind_viable {before = any} y (λ x. pure_follows (λ u e. refl))
 
     main_viable : {ends : Token → Bool} {r : ℕ} (l : ℕ) → Viable ends r (λ s. main_head v l)
@@ -290,19 +294,27 @@ module _ {Token : Type 0} (v : Sight Token) where
       unfolding thread_head
       thread_viable l = choice_viable (λ u. named_move (function_name (seen v u)) (λ n. start_viable l n)) words.name (λ s le. rw words.name_is refl) (start_viable l words.letters)
 
+      behind_void_move : {ends : Token → Bool} {r : ℕ} (l : ℕ) (u : Token) → ViableMove ends r (λ s. void_by v l u)
+      behind_void_move l u = if_move (is v signs.Star u) (thread_viable l) (named_move (function_name (seen v u)) (λ n. void_viable l n))
+
       -- behind the word `void`, which so has no definition
       pub behind_void_viable : {ends : Token → Bool} {r : ℕ} (l : ℕ) → Viable ends r (λ s. head_behind_void v l)
       unfolding head_behind_void
-      behind_void_viable l =
-          choice_viable (λ u. if_move (is v signs.Star u) (thread_viable l) (named_move (function_name (seen v u)) (λ n. void_viable l n))) words.name (λ s le. rw words.name_is refl) (void_viable l words.letters)
+      behind_void_viable l = choice_viable (behind_void_move l) words.name (λ s le. rw words.name_is refl) (void_viable l words.letters)
+
+      pub behind_void_take : (l r : ℕ) → Takes (head_behind_void v l)
+      unfolding head_behind_void
+      behind_void_take l r = commit_takes {ends = any} {r = r} (λ s. refuse) (behind_void_move l) (λ ts a e. absurd cc)
 
     -- ---- what `int` begins
 
     -- the words of the capacities, which have no definition where nothing stands before them
     abbrev pub CapacityWords : Type 0
-    CapacityWords = SeenAs v (is_as w.Void) × SeenAs v (is_as w.Int) × SeenAs v (is_as w.Parameter) × SeenAs v (is_as w.Take) × SeenAs v (is_as w.Give)
+    CapacityWords =
+        SeenAs v (is_as w.Void) × SeenAs v (is_as w.Int) × SeenAs v (is_as w.Parameter) × SeenAs v (is_as w.Take) × SeenAs v (is_as w.Give)
+        × SeenAs v (is_as w.ControlledWait) × SeenAs v (is_as w.Condition) × SeenAs v (is_as w.ConditionParameter) × SeenAs v (is_as w.Mutex) × SeenAs v (is_as w.MutexParameter)
 
-    word_viable : {A : Type 0} {ends : Token → Bool} {r : ℕ} {p : Parser Token A} (word : FixedWord) → SeenAs v (is_as word) → Viable ends r (λ s. p) → Viable ends r (λ s. must (is_fixed v word) p)
+    pub word_viable : {A : Type 0} {ends : Token → Bool} {r : ℕ} {p : Parser Token A} (word : FixedWord) → SeenAs v (is_as word) → Viable ends r (λ s. p) → Viable ends r (λ s. must (is_fixed v word) p)
     word_viable word x y = must_viable (is_fixed v word) x.0 (word_at word x.0 x.1) y
 
     module _ (here : CapacityWords) where

@@ -214,7 +214,7 @@ capacities_of l len all = record { len = len; values = all; line = l }
 unfoldable pub capacity_values : {Token : Type 0} → Sight Token → Parser Token (List ℕ)
 capacity_values v = must (is v s.Assign) (ended v s.Semicolon (braced v (numbers v)))
 
--- both prototypes
+-- the prototypes of `gd_take` and `gd_give`
 unfoldable pub prototypes : {Token : Type 0} → Sight Token → Parser Token (Unit {0})
 prototypes v = prototype v w.Take >>= λ _. prototype v w.Give
 
@@ -329,3 +329,43 @@ behind_int v holds first l = commit (λ u. behind_int_by v holds first l (line v
 abbrev pub is_at : {Token : Type 0} → (Token → Bool) → List Token → Bool
 is_at test [] = false
 is_at test (u ∷ rest) = test u
+
+-- a token that passes a test, and behind it others that pass theirs
+abbrev pub comes_then : {Token : Type 0} → (Token → Bool) → (List Token → Bool) → List Token → Bool
+comes_then test more [] = false
+comes_then test more (u ∷ rest) = if test u then more rest else false
+
+-- ---- the declaration of `gd_cond_wait`
+
+-- pthread_cond_t
+abbrev pub type_comes : {Token : Type 0} → Sight Token → List Token → Bool
+type_comes v ts = is_at (is_fixed v w.Condition) ts
+
+-- ( pthread_cond_t
+abbrev pub open_comes : {Token : Type 0} → Sight Token → List Token → Bool
+open_comes v ts = comes_then (is v s.LeftParenthesis) (type_comes v) ts
+
+-- gd_cond_wait ( pthread_cond_t
+abbrev pub word_comes : {Token : Type 0} → Sight Token → List Token → Bool
+word_comes v ts = comes_then (is_fixed v w.ControlledWait) (open_comes v) ts
+
+-- void gd_cond_wait ( pthread_cond_t
+abbrev pub wait_comes : {Token : Type 0} → Sight Token → List Token → Bool
+wait_comes v ts = comes_then (is_fixed v w.Void) (word_comes v) ts
+
+-- * c , pthread_mutex_t * m , ... ) ;
+unfoldable pub wait_end : {Token : Type 0} → Sight Token → Parser Token (Unit {0})
+wait_end v =
+    must (is v s.Star) (must (is_fixed v w.ConditionParameter) (must (is v s.Comma) (must (is_fixed v w.Mutex) (must (is v s.Star) (must (is_fixed v w.MutexParameter) (must (is v s.Comma) (must (is v s.Ellipsis)
+    (must (is v s.RightParenthesis) (must (is v s.Semicolon) (pure tt))))))))))
+
+-- the same behind `void`
+unfoldable pub wait_behind_void : {Token : Type 0} → Sight Token → Parser Token (Unit {0})
+wait_behind_void v = must (is_fixed v w.ControlledWait) (must (is v s.LeftParenthesis) (must (is_fixed v w.Condition) (wait_end v)))
+
+unfoldable pub wait_prototype : {Token : Type 0} → Sight Token → Parser Token (Unit {0})
+wait_prototype v = must (is_fixed v w.Void) (wait_behind_void v)
+
+-- the declaration, if the tokens come that nothing else begins with
+unfoldable pub wait_declared : {Token : Type 0} → Sight Token → Parser Token (Unit {0})
+wait_declared v = λ ts. (if wait_comes v ts then wait_prototype v else pure tt) ts

@@ -101,7 +101,7 @@ fn prototypes<'a>(setting: Setting, tokens: &'a [Marked]) -> Read<'a, ()>
     prototype(setting, FixedWord::Give, rest)
 }
 
-/// Reads what stands behind `int gd_cap [`: the capacities, and the prototypes of the calls of monitors.
+/// Reads what stands behind `int gd_cap [`: the capacities, and the prototypes of `gd_take` and `gd_give`.
 #[tactic(auto, unfolding(crate::specs::Parsers::capacities))]
 pub fn capacities<'a>(
     alloc: Global,

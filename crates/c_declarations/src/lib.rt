@@ -14,3 +14,4 @@ pub mod object;
 pub mod token;
 pub mod tree;
 pub mod value;
+pub mod wait;

@@ -60,6 +60,6 @@ pub enum Begun {
     Cells(Ints),
     /// The head of a function, up to its `)`.
     Head(Head),
-    /// The capacities, up to the end of the prototypes behind them.
+    /// The capacities, up to the end of the prototypes of `gd_take` and `gd_give` behind them.
     Capacities(Capacities),
 }

@@ -91,6 +91,8 @@ module _ (defined : List Defined) (v : Sight Word) (sees : Sees defined v) where
     number = word (Kind.number 0) [];
     value = 0;
     number_is = unfolding_seen (Kind.number 0) [];
+    one = word (Kind.number 1) [];
+    one_is = unfolding_seen (Kind.number 1) [];
     format = word Kind.text (codes "\"%d\"");
     format_is = unfolding_seen Kind.text (codes "\"%d\"");
     cast = λ e. either (λ a. is_cast_inner (inner a)) w.Long (free defined w.IntPointer) refl refl (sees.casts e) (λ f. last (λ a. is_cast_inner (inner a)) w.IntPointer refl refl f);

@@ -36,6 +36,8 @@ pub head_of_callee : (a : What) (n : List ℕ) → callee a ≡ Some n → head 
 head_of_callee (What.Name m) n e = let same : m ≡ n = cc in rw same refl
 head_of_callee (What.Fixed w.Main) n e = ap by_name e
 head_of_callee (What.Fixed w.Parameter) n e = ap by_name e
+head_of_callee (What.Fixed w.ConditionParameter) n e = ap by_name e
+head_of_callee (What.Fixed w.MutexParameter) n e = ap by_name e
 head_of_callee _ n e = absurd cc
 
 module _ {Token : Type 0} (v : Sight Token) (words : Words v) where

@@ -18,7 +18,7 @@ begins_declaration (What.Fixed w.Mutex) = true
 begins_declaration (What.Fixed w.Condition) = true
 begins_declaration other = false
 
--- There is a token for each sign, a name, a number and a format; and for the words that have no definition.
+-- There is a token for each sign, a name, a number, the number 1 and a format; and for the words that have no definition.
 pub record Words {Token : Type 0} (v : Sight Token) : Type 0 where
   pub sign : Sign → Token
   pub sign_is : (x : Sign) → seen v (sign x) ≡ What.Sign x
@@ -29,6 +29,8 @@ pub record Words {Token : Type 0} (v : Sight Token) : Type 0 where
   pub number : Token
   pub value : ℕ
   pub number_is : seen v number ≡ What.Number value
+  pub one : Token
+  pub one_is : seen v one ≡ What.Number 1
   pub format : Token
   pub format_is : seen v format ≡ What.Text (codes "%d")
   -- `long` or `intptr_t`

@@ -89,6 +89,8 @@ pub fn spelling(word: FixedWord) -> &'static [u8]
         FixedWord::Return => b"return",
         FixedWord::Main => b"main",
         FixedWord::Parameter => b"k",
+        FixedWord::ConditionParameter => b"c",
+        FixedWord::MutexParameter => b"m",
         FixedWord::Null => b"NULL",
         FixedWord::IntPointer => b"intptr_t",
         FixedWord::Print => b"printf",
@@ -103,6 +105,7 @@ pub fn spelling(word: FixedWord) -> &'static [u8]
         FixedWord::InitMutex => b"pthread_mutex_init",
         FixedWord::InitCondition => b"pthread_cond_init",
         FixedWord::Lock => b"pthread_mutex_lock",
+        FixedWord::TryLock => b"pthread_mutex_trylock",
         FixedWord::Unlock => b"pthread_mutex_unlock",
         FixedWord::Wait => b"pthread_cond_wait",
         FixedWord::Signal => b"pthread_cond_signal",
@@ -110,6 +113,7 @@ pub fn spelling(word: FixedWord) -> &'static [u8]
         FixedWord::Capacities => b"gd_cap",
         FixedWord::Take => b"gd_take",
         FixedWord::Give => b"gd_give",
+        FixedWord::ControlledWait => b"gd_cond_wait",
     }
 }
 
@@ -156,6 +160,8 @@ pub fn called<'t>(text: &'t [u8], what: What) -> Option<&'t [u8]>
         What::Name(place) => Some(piece(text, place)),
         What::Fixed(FixedWord::Main) => Some(b"main"),
         What::Fixed(FixedWord::Parameter) => Some(b"k"),
+        What::Fixed(FixedWord::ConditionParameter) => Some(b"c"),
+        What::Fixed(FixedWord::MutexParameter) => Some(b"m"),
         _ => None,
     }
 }

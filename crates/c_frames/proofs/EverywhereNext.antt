@@ -3,12 +3,12 @@ use Rattle.std.proofs.Common.{◌≡◌, ℕ, zero, suc, Bool, true, false, List
 use Rattle.std.specs.Prelude.{bytes_eq, ◌||◌, IfSome}
 use Rattle.std.specs.Option.{option_map_or}
 use Rattle.std.proofs.lemmas.Slice.Eq.{bytes_eq-Decides}
-use Rattle.c_tree.specs.Bare.{Stmt, Stmts, Nil, Cons, Function, If, While, For}
+use Rattle.c_tree.specs.Bare.{Stmt, Stmts, Nil, Cons, Function, If, While, For, TryLock}
 use Rattle.c_frames.specs.declared.frames.Frame.{Frame}
 use Rattle.c_frames.specs.declared.positions.Entered.{Entered}
 use Rattle.c_frames.specs.declared.positions.Part.{Part}
 use Rattle.c_frames.specs.declared.positions.Part.TheVariants.{Then, Else, Body, Step}
-use Rattle.c_frames.specs.Everywhere.{Everywhere, EverywhereInside}
+use Rattle.c_tree.specs.Everywhere.{Everywhere, EverywhereInside}
 use Rattle.c_frames.specs.Frames.{IsNext}
 use Rattle.c_frames.specs.declared.names.LocalNames.{LocalNames}
 use Rattle.c_frames.specs.Names.{target, is_target, is_set, is_set_inside, is_among, IsAmong, SetsAmong, NamesOf}
@@ -18,6 +18,8 @@ module _ (P : Stmt → Type 0) where
   of_part : (part : Part) (s : Stmt) → EverywhereInside P s → Everywhere P (part_of part s)
   of_part Then (If test then_arm else_arm) all = all.0
   of_part Else (If test then_arm else_arm) all = all.1
+  of_part Then (TryLock place taken busy) all = all.0
+  of_part Else (TryLock place taken busy) all = all.1
   of_part Body (While test body) all = all
   of_part Body (For first_part test step body) all = all.2
   of_part Step (For first_part test step body) all = all.1
@@ -55,6 +57,7 @@ mutual
   inside_weaker P Q follows (While test body) all = everywhere_weaker P Q follows body all
   inside_weaker P Q follows (For first_part test step body) all =
       (everywhere_weaker P Q follows first_part all.0, everywhere_weaker P Q follows step all.1, everywhere_weaker P Q follows body all.2)
+  inside_weaker P Q follows (TryLock place a b) all = (everywhere_weaker P Q follows a all.0, everywhere_weaker P Q follows b all.1)
   inside_weaker P Q follows s all = tt
 
 -- ---- what statements give values
@@ -95,6 +98,10 @@ mutual
     sets_among_all names first_part (λ q is. all q (either_left (is_set q first_part || is_set q step) (is_set q body) (either_left (is_set q first_part) (is_set q step) is))),
     sets_among_all names step (λ q is. all q (either_left (is_set q first_part || is_set q step) (is_set q body) (either_right (is_set q first_part) (is_set q step) is))),
     sets_among_all names body (λ q is. all q (either_right (is_set q first_part || is_set q step) (is_set q body) is)),
+  )
+  sets_among_inside names (TryLock place a b) all = (
+    sets_among_all names a (λ q is. all q (either_left (is_set q a) (is_set q b) is)),
+    sets_among_all names b (λ q is. all q (either_right (is_set q a) (is_set q b) is)),
   )
   sets_among_inside names s all = tt
 

@@ -5,7 +5,8 @@ use Rattle.c_frames.specs.declared.positions.Part.{Part}
 use Rattle.c_frames.specs.declared.positions.Part.TheVariants.{Then, Else, Body, Step}
 use Rattle.c_frames.specs.declared.positions.Entered.{Entered}
 use Rattle.c_frames.specs.declared.positions.Standing.{Standing}
-use Rattle.c_meaning.specs.Branching.{before, loop_of}
+use Rattle.c_tree.specs.Bare.{before}
+use Rattle.c_meaning.specs.Branching.{loop_of}
 use Rattle.c_frames.specs.Positions.{from, part_of, after_part, entered, left, inside, behind, next_in, first_of, todo, StandsAt, weight, weight_of}
 
 pub before_nil : (ss : Stmts) → before ss Nil ≡ ss

@@ -1,7 +1,7 @@
 -- Each list that can be entered is lower than the one that it stands in.
 use Rattle.std.proofs.Common.{◌≡◌, ◌<◌, ◌≤◌, ◌+◌, ℕ, zero, suc, max, List, [], ◌∷◌, ◌++◌, length, slice_index_or, ap, arith}
 use Rattle.c_tree.specs.declared.stmt.Stmt as declared
-use Rattle.c_tree.specs.Bare.{Stmt, Stmts, Nil, Cons, If, While, For}
+use Rattle.c_tree.specs.Bare.{Stmt, Stmts, Nil, Cons, If, While, For, TryLock}
 use Rattle.c_frames.specs.declared.positions.Part.{Part}
 use Rattle.c_frames.specs.declared.positions.Part.TheVariants.{Then, Else, Body, Step}
 use Rattle.c_frames.specs.declared.positions.Entered.{Entered}
@@ -13,6 +13,8 @@ use Rattle.c_frames.proofs.Standings.{there_of, from_there, from_past}
 lower_part : (part : Part) (s : Stmt) → height (part_of part s) ≤ height_inside s
 lower_part Then (If test then_arm else_arm) = omega arith
 lower_part Else (If test then_arm else_arm) = omega arith
+lower_part Then (TryLock place taken busy) = omega arith
+lower_part Else (TryLock place taken busy) = omega arith
 lower_part Body (While test body) = omega arith
 lower_part Body (For first_part test step body) = omega arith
 lower_part Step (For first_part test step body) = omega arith

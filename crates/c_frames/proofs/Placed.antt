@@ -2,13 +2,14 @@
 use Rattle.std.proofs.Common.{◌≡◌, ◌≤◌, ◌+◌, ℕ, zero, suc, Bool, true, false, refl, sym, ap, ◌∙◌, length, arith}
 use Rattle.std.specs.Prelude.{max, List, Option, Some, None, is_some, IfSome}
 use Rattle.c_frames.specs.declared.positions.Entered.{Entered}
-use Rattle.c_tree.specs.Bare.{Stmt, Stmts, Nil, Cons, Function, If, While, For}
+use Rattle.c_tree.specs.Bare.{Stmt, Stmts, Nil, Cons, Function, If, While, For, TryLock}
 use Rattle.c_frames.specs.declared.frames.Arm.{Arm}
 use Rattle.c_frames.specs.declared.frames.Arm.TheVariants.{Then, Else, Body}
 use Rattle.c_frames.specs.declared.frames.Frame.{Frame}
 use Rattle.c_frames.specs.declared.positions.Part.TheVariants as parts
 use Rattle.c_frames.specs.declared.positions.Standing.{Standing}
-use Rattle.c_meaning.specs.Branching.{before, loop_of}
+use Rattle.c_tree.specs.Bare.{before}
+use Rattle.c_meaning.specs.Branching.{loop_of}
 use Rattle.c_frames.specs.Frames.{picked, IsPlaced}
 use Rattle.c_frames.specs.Heights.{height, height_inside}
 use Rattle.c_frames.specs.Positions.{from, part_of, after_part, inside, behind, next_in, first_of, todo_at, rest_at, StandsAt, IsSettled, Descends}
@@ -61,10 +62,12 @@ picked_begun arm false s rest = refl
 
 pub picked_then : (s : Stmt) (rest : Stmts) → before (part_of parts.Then s) (after_part parts.Then s rest) ≡ picked Then s rest
 picked_then (If test then_arm else_arm) rest = refl
+picked_then (TryLock place taken busy) rest = refl
 picked_then s rest = refl
 
 pub picked_else : (s : Stmt) (rest : Stmts) → before (part_of parts.Else s) (after_part parts.Else s rest) ≡ picked Else s rest
 picked_else (If test then_arm else_arm) rest = refl
+picked_else (TryLock place taken busy) rest = refl
 picked_else s rest = refl
 
 pub picked_body : (s : Stmt) (rest : Stmts) → before (part_of parts.Body s) (after_part parts.Body s rest) ≡ picked Body s rest

@@ -1,15 +1,16 @@
 -- Declared statements that hold others, as the definitions see them.
 use Rattle.std.proofs.Common.{◌≡◌, ℕ, List, sym, ◌∙◌, ap}
 use Rattle.c_tree.specs.declared.expr.Expr as declared_expr
+use Rattle.c_tree.specs.declared.expr.Place as declared_place
 use Rattle.c_tree.specs.declared.stmt.Stmt as declared
 use Rattle.c_tree.specs.declared.stmt.Act.{fold-Act}
 use Rattle.c_tree.specs.declared.stmt.Act.TheVariants as act
 use Rattle.c_tree.specs.declared.stmt.Act.TheOpen as act_open
 use Rattle.c_tree.specs.declared.stmt.Act.TheFolds.{fold-roll-Act, fold_out-Stmt}
-use Rattle.c_tree.specs.Expressions.{expr_of}
+use Rattle.c_tree.specs.Expressions.{expr_of, place_of}
 use Rattle.c_tree.specs.Lined as lined
 use Rattle.c_tree.specs.Lined.{act_layer, stmt_layer, bare_stmt}
-use Rattle.c_tree.specs.Bare.{If, While, For}
+use Rattle.c_tree.specs.Bare.{If, While, For, TryLock}
 use Rattle.c_meaning.specs.Shown.{shown_stmt, shown_body}
 
 pub if_is : (s : declared.Stmt) (test : declared_expr.Expr) (then_arm else_arm : List declared.Stmt) → s.act ≡ act.If test then_arm else_arm
@@ -31,3 +32,10 @@ for_is s first_part test step body is =
     ap bare_stmt (fold_out-Stmt (ℕ → lined.Stmt) lined.Stmt act_layer stmt_layer s
     ∙ ap (λ a. fold-Act (ℕ → lined.Stmt) lined.Stmt act_layer stmt_layer a s.line) (is ∙ sym (act.rolls-For first_part test step body))
     ∙ ap (λ f. f s.line) (fold-roll-Act (ℕ → lined.Stmt) lined.Stmt act_layer stmt_layer (act_open.For first_part test step body)))
+
+pub try_lock_is : (s : declared.Stmt) (place : declared_place.Place) (taken busy : List declared.Stmt) → s.act ≡ act.TryLock place taken busy
+    → shown_stmt s ≡ TryLock (place_of place) (shown_body taken) (shown_body busy)
+try_lock_is s place taken busy is =
+    ap bare_stmt (fold_out-Stmt (ℕ → lined.Stmt) lined.Stmt act_layer stmt_layer s
+    ∙ ap (λ a. fold-Act (ℕ → lined.Stmt) lined.Stmt act_layer stmt_layer a s.line) (is ∙ sym (act.rolls-TryLock place taken busy))
+    ∙ ap (λ f. f s.line) (fold-roll-Act (ℕ → lined.Stmt) lined.Stmt act_layer stmt_layer (act_open.TryLock place taken busy)))

@@ -8,7 +8,8 @@ use Rattle.c_frames.specs.declared.frames.Arm.TheVariants.{Then, Else, Body}
 use Rattle.c_frames.specs.declared.names.LocalNames.{LocalNames}
 use Rattle.c_meaning.specs.State as meaning
 use Rattle.c_meaning.specs.State.{Locals}
-use Rattle.c_meaning.specs.Branching.{before, loop_of}
+use Rattle.c_tree.specs.Bare.{before}
+use Rattle.c_meaning.specs.Branching.{loop_of}
 use Rattle.c_frames.specs.Heights.{height}
 use Rattle.c_frames.specs.LocalValues.{locals_of}
 use Rattle.c_frames.specs.Names.{names_in}
@@ -46,10 +47,12 @@ pub record IsNext (f : Function) (frame : Frame) (s : Stmt) : Type 0 where
   pub stands : StandsAt f.body frame.at s
   pub first : todo_of f frame ≡ Cons (first_of frame.at.begun s) (rest_at f.body frame.at)
 
--- what is done where a test picks a list of a statement, where `rest` stands behind that statement
+-- what is done where a list of a statement is picked, by a test or by what a trylock finds, where `rest` stands behind that statement
 abbrev pub picked : Arm → Stmt → Stmts → Stmts
 picked Then (bare.If test then_arm else_arm) rest = before then_arm rest
 picked Else (bare.If test then_arm else_arm) rest = before else_arm rest
+picked Then (bare.TryLock place taken busy) rest = before taken rest
+picked Else (bare.TryLock place taken busy) rest = before busy rest
 picked Body (bare.While test body) rest = before body (Cons (bare.While test body) rest)
 picked Body (bare.For first_part test step body) rest = before body (before step (Cons (loop_of test step body) rest))
 picked arm s rest = rest

@@ -14,4 +14,5 @@ abbrev mutual
   height_inside (bare.If test then_arm else_arm) = max (height then_arm) (height else_arm)
   height_inside (bare.While test body) = height body
   height_inside (bare.For first_part test step body) = max (height step) (height body)
+  height_inside (bare.TryLock place taken busy) = max (height taken) (height busy)
   height_inside s = zero

@@ -1,4 +1,3 @@
-pub mod Everywhere
 pub mod Heights
 pub mod Positions
 pub mod LocalValues

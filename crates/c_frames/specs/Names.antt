@@ -39,6 +39,7 @@ abbrev mutual
   is_set_inside name (bare.If test then_arm else_arm) = is_set name then_arm || is_set name else_arm
   is_set_inside name (bare.While test body) = is_set name body
   is_set_inside name (bare.For first_part test step body) = (is_set name first_part || is_set name step) || is_set name body
+  is_set_inside name (bare.TryLock place taken busy) = is_set name taken || is_set name busy
   is_set_inside name s = false
 
 -- the texts of a set's names, in the order in which they came

@@ -8,7 +8,8 @@ use Rattle.c_frames.specs.declared.positions.Entered.{Entered}
 use Rattle.c_frames.specs.declared.positions.After.{After}
 use Rattle.c_frames.specs.declared.positions.After.TheVariants.{Past, Again, Test, Stepping}
 use Rattle.c_frames.specs.declared.positions.Standing.{Standing}
-use Rattle.c_meaning.specs.Branching.{before, loop_of}
+use Rattle.c_tree.specs.Bare.{before}
+use Rattle.c_meaning.specs.Branching.{loop_of}
 use Rattle.c_frames.specs.Heights.{height}
 
 -- a list of statements from a place on
@@ -21,6 +22,8 @@ from (suc k) (Cons s rest) = from k rest
 abbrev pub part_of : Part → Stmt → Stmts
 part_of Then (bare.If test then_arm else_arm) = then_arm
 part_of Else (bare.If test then_arm else_arm) = else_arm
+part_of Then (bare.TryLock place taken busy) = taken
+part_of Else (bare.TryLock place taken busy) = busy
 part_of Body (bare.While test body) = body
 part_of Body (bare.For first_part test step body) = body
 part_of Step (bare.For first_part test step body) = step

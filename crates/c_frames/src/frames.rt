@@ -3,7 +3,7 @@ ghost use Rattle.std.specs.Prelude.{◌≡◌, IfSome, IfOk, IsNone, true};
 ghost use Rattle.std.specs.FinMap as finite;
 ghost use Rattle.c_tree.specs.Bare as bare;
 ghost use Rattle.c_tree.specs.Bare.{Stmts, Nil, Cons};
-ghost use Rattle.c_meaning.specs.Branching.{before};
+ghost use Rattle.c_tree.specs.Bare.{before};
 ghost use Rattle.c_meaning.specs.Calls.{passed};
 ghost use Rattle.c_meaning.specs.Shown.{shown_stmt, shown_body};
 ghost use Rattle.c_meaning.specs.State.{frame};
@@ -19,12 +19,12 @@ use c_tree::{Function, Stmt};
 use smallvec::SmallVec;
 use std::alloc::{AllocError, Global};
 
-/// A list of a statement that its test picks.
+/// A list of a statement that its test picks, or what a trylock finds.
 #[derive(Clone, Copy, Debug, PartialEq, Eq)]
 pub enum Arm {
-    /// What an `if` does where its test isn't 0.
+    /// What an `if` does where its test isn't 0, or a trylock where it takes the mutex.
     Then,
-    /// What an `if` does where its test is 0.
+    /// What an `if` does where its test is 0, or a trylock where the mutex is busy.
     Else,
     /// The body of a loop.
     Body,

@@ -38,6 +38,9 @@ fn height_inside(s: &Stmt) -> Result<usize, AllocError>
         } => Ok(height(then_arm.as_slice())?.max(height(else_arm.as_slice())?)),
         Act::While { body, .. } => height(body.as_slice()),
         Act::For { step, body, .. } => Ok(height(step.as_slice())?.max(height(body.as_slice())?)),
+        Act::TryLock { taken, busy, .. } => {
+            Ok(height(taken.as_slice())?.max(height(busy.as_slice())?))
+        }
         _ => Ok(0),
     }
 }

@@ -9,8 +9,6 @@ mod heights;
 mod locals;
 mod names;
 mod positions;
-#[cfg(test)]
-mod tests;
 
 pub use frames::{Arm, Frame};
 pub use names::{LocalNames, local_names};

@@ -128,6 +128,10 @@ fn add_inside(alloc: Global, names: &mut Names, s: &Stmt) -> Result<(), AllocErr
             add_targets(alloc, names, step.as_slice())?;
             add_targets(alloc, names, body.as_slice())
         }
+        Act::TryLock { taken, busy, .. } => {
+            add_targets(alloc, names, taken.as_slice())?;
+            add_targets(alloc, names, busy.as_slice())
+        }
         _ => Ok(()),
     }
 }

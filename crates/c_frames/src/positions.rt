@@ -5,7 +5,7 @@ ghost use Rattle.c_frames.specs.declared.positions.Part.TheVariants as parts;
 ghost use Rattle.c_tree.specs.Bare as bare;
 ghost use Rattle.c_tree.specs.Bare.{Stmts, Nil, Cons};
 ghost use Rattle.smallvec.specs.SmallVec.{HasRoomFor};
-ghost use Rattle.c_meaning.specs.Branching.{before};
+ghost use Rattle.c_tree.specs.Bare.{before};
 ghost use Rattle.c_meaning.specs.Shown.{shown_stmt, shown_body};
 ghost use Rattle.c_frames.specs.Positions.{from, part_of, after_part, entered, left, inside, behind, resumed, todo_at, first_of, rest_at, StandsAt, weight, weight_of, IsSettled, Descends};
 
@@ -15,7 +15,7 @@ use smallvec::SmallVec;
 /// A part of a statement that is a list of statements.
 #[derive(Clone, Copy, Debug, Default, PartialEq, Eq)]
 pub enum Part {
-    /// The arm of an `if` whose test isn't 0.
+    /// The arm of an `if` whose test isn't 0, or of a trylock that takes the mutex.
     #[default]
     Then,
     /// The other arm.
@@ -42,6 +42,8 @@ fn part_of(s: &Stmt, part: Part) -> &[Stmt]
     match (&s.act, part) {
         (Act::If { then_arm, .. }, Part::Then) => then_arm.as_slice(),
         (Act::If { else_arm, .. }, Part::Else) => else_arm.as_slice(),
+        (Act::TryLock { taken, .. }, Part::Then) => taken.as_slice(),
+        (Act::TryLock { busy, .. }, Part::Else) => busy.as_slice(),
         (Act::While { body, .. }, Part::Body) => body.as_slice(),
         (Act::For { body, .. }, Part::Body) => body.as_slice(),
         (Act::For { step, .. }, Part::Step) => step.as_slice(),

@@ -6,14 +6,13 @@ use Rattle.c_grammar.specs.declared.words.FixedWord.{FixedWord}
 use Rattle.c_grammar.specs.declared.words.FixedWord.TheVariants as w
 use Rattle.c_grammar.specs.Items.{What, Item, at, sign, fixed}
 use Rattle.c_grammar.specs.Levels.{Tall}
+use Rattle.c_grammar.specs.Simple.{SpellsNumber}
 use Rattle.c_grammar.specs.Declarations as g
-use Rattle.c_grammar.specs.Declarations.{SpellsNumber, SpellsValue, Declared, SpellsCell, SpellsCells, Sort, type_word, initial_word, SpellsInitial, SpellsObject, SpellsObjects, Capacities, SpellsPrototype, SpellsCapacities, SpellsParameter, SpellsParameters, SpellsVoid, Head, SpellsHead, Defined, SpellsFunction}
+use Rattle.c_grammar.specs.Declarations.{SpellsValue, Declared, SpellsCell, SpellsCells, Sort, type_word, initial_word, SpellsInitial, SpellsObject, SpellsObjects, Capacities, SpellsPrototype, SpellsWaitPrototype, SpellsCapacities, SpellsParameter, SpellsParameters, SpellsVoid, Head, SpellsHead, Defined, SpellsFunction}
 use Rattle.c_fronts.proofs.Put.{nothing, token, both, Taken, taken, named, celled, functioned, commas_taken}
 use Rattle.c_fronts.proofs.Expressions.{T}
+use Rattle.c_fronts.proofs.Simple.{number_taken}
 use Rattle.c_fronts.proofs.Statements.{static_taken, body_taken}
-
-number_taken : {before after : List Item} {k : ℕ} → SpellsNumber before after k → T SpellsNumber before after k
-number_taken (g.number {l = l} {k = k}) = taken (token (at l (What.Number k)) refl nothing) refl (λ z. g.number)
 
 value_taken : {before after : List Item} {k : ℤ} → SpellsValue before after k → T SpellsValue before after k
 value_taken (g.plain {l = l} {k = k}) = taken (token (at l (What.Number k)) refl nothing) refl (λ z. g.plain)
@@ -68,16 +67,24 @@ prototype_taken : {word : FixedWord} {before after : List Item} → SpellsProtot
 prototype_taken {word} (g.prototype {l = l} {m = m} {n = n} {i = i} {j = j} {g = o} {h = h}) =
     taken (token (fixed l w.Void) refl (token (fixed m word) refl (token (sign n s.LeftParenthesis) refl (token (fixed i w.Int) refl (token (fixed j w.Parameter) refl (token (sign o s.RightParenthesis) refl (token (sign h s.Semicolon) refl nothing))))))) refl (λ z. g.prototype)
 
+wait_prototype_taken : {before after : List Item} → SpellsWaitPrototype before after → Taken SpellsWaitPrototype before after
+wait_prototype_taken g.SpellsWaitPrototype.absent = taken nothing refl (λ z. g.SpellsWaitPrototype.absent)
+wait_prototype_taken (g.SpellsWaitPrototype.present {a = a} {b = b} {c = c} {d = d} {e = e} {f = f} {g = o} {h = h} {i = i} {j = j} {k = k} {l = l} {m = m} {n = n}) =
+    taken (token (fixed a w.Void) refl (token (fixed b w.ControlledWait) refl (token (sign c s.LeftParenthesis) refl (token (fixed d w.Condition) refl (token (sign e s.Star) refl (token (fixed f w.ConditionParameter) refl (token (sign o s.Comma) refl
+    (token (fixed h w.Mutex) refl (token (sign i s.Star) refl (token (fixed j w.MutexParameter) refl (token (sign k s.Comma) refl (token (sign l s.Ellipsis) refl (token (sign m s.RightParenthesis) refl (token (sign n s.Semicolon) refl nothing))))))))))))))
+    refl (λ z. g.SpellsWaitPrototype.present)
+
 pub capacities_taken : {before after : List Item} {c : Capacities} → SpellsCapacities before after c → T SpellsCapacities before after c
-capacities_taken (g.capacities {l = l} {m = m} {n = n} {i = i} {j = j} {g = o} {h = h} {d = d} {e = e} {len = len} x a b) =
+capacities_taken (g.capacities {l = l} {m = m} {n = n} {i = i} {j = j} {g = o} {h = h} {d = d} {e = e} {len = len} x a b c) =
     let y = commas_taken SpellsNumber (λ b c e d. number_taken d) x in
     let r = prototype_taken a in
     let q = prototype_taken b in
+    let u = wait_prototype_taken c in
     taken (token (fixed l w.Int) refl (token (fixed m w.Capacities) refl (token (sign n s.LeftBracket) refl (token (at i (What.Number len)) refl (token (sign j s.RightBracket) refl (token (sign o s.Assign) refl (token (sign h s.LeftBrace) refl
-    (both y.p (token (sign d s.RightBrace) refl (token (sign e s.Semicolon) refl (both r.p q.p)))))))))))
+    (both y.p (token (sign d s.RightBrace) refl (token (sign e s.Semicolon) refl (both r.p (both q.p u.p))))))))))))
     (ap (λ (t : List Item). fixed l w.Int ∷ fixed m w.Capacities ∷ sign n s.LeftBracket ∷ at i (What.Number len) ∷ sign j s.RightBracket ∷ sign o s.Assign ∷ sign h s.LeftBrace ∷ t)
-    (y.parts ∙ ap (λ (t : List Item). y.p.put (sign d s.RightBrace ∷ sign e s.Semicolon ∷ t)) (r.parts ∙ ap r.p.put q.parts)))
-    (λ z. g.capacities (y.again (sign d s.RightBrace ∷ sign e s.Semicolon ∷ r.p.put (q.p.put z))) (r.again (q.p.put z)) (q.again z))
+    (y.parts ∙ ap (λ (t : List Item). y.p.put (sign d s.RightBrace ∷ sign e s.Semicolon ∷ t)) (r.parts ∙ ap r.p.put (q.parts ∙ ap q.p.put u.parts))))
+    (λ z. g.capacities (y.again (sign d s.RightBrace ∷ sign e s.Semicolon ∷ r.p.put (q.p.put (u.p.put z)))) (r.again (q.p.put (u.p.put z))) (q.again (u.p.put z)) (u.again z))
 
 -- ---- heads, and functions
 

@@ -10,7 +10,7 @@ use Rattle.c_grammar.specs.declared.words.FixedWord.TheVariants as w
 use Rattle.c_grammar.specs.Items.{What, Item, at, sign, fixed}
 use Rattle.c_grammar.specs.Levels.{Tall, alone}
 use Rattle.c_grammar.specs.Simple as g
-use Rattle.c_grammar.specs.Simple.{SpellsStep, SpellsDeclarator, SpellsResult, SpellsSimple, changed, number_format}
+use Rattle.c_grammar.specs.Simple.{SpellsStep, SpellsDeclarator, SpellsResult, SpellsNumber, SpellsSimple, changed, number_format}
 use Rattle.c_fronts.proofs.Put.{nothing, token, both, taken, named, commas_taken}
 use Rattle.c_fronts.proofs.Expressions.{T, whole_taken, expressions_taken, place_taken, address_taken, call_taken, argument_taken}
 
@@ -43,6 +43,13 @@ result_taken (g.of_int x) = let y = whole_taken x in taken y.p y.parts (λ z. g.
 result_taken g.of_void = taken nothing refl (λ z. g.of_void)
 result_taken (g.null_of_thread {l = l}) = taken (token (fixed l w.Null) refl nothing) refl (λ z. g.null_of_thread)
 result_taken (g.zero_of_thread {l = l}) = taken (token (at l (What.Number 0)) refl nothing) refl (λ z. g.zero_of_thread)
+
+-- ---- numbers
+
+pub number_taken : {before after : List Item} {k : ℕ} → SpellsNumber before after k → T SpellsNumber before after k
+number_taken (g.number {l = l} {k = k}) = taken (token (at l (What.Number k)) refl nothing) refl (λ z. g.number)
+
+-- ---- simple statements
 
 pub simple_taken : {k : Kind} {before after : List Item} {x : Tall (List Stmt)} → SpellsSimple k before after x → T (SpellsSimple k) before after x
 simple_taken (g.step x) = let y = step_taken x in taken y.p y.parts (λ z. g.step (y.again z))
@@ -107,3 +114,14 @@ simple_taken (g.take {l = l} {m = m} {n = n} {i = i} {monitor = c}) =
     taken (token (fixed l w.Take) refl (token (sign m s.LeftParenthesis) refl (token (at n (What.Number c)) refl (token (sign i s.RightParenthesis) refl nothing)))) refl (λ z. g.take)
 simple_taken (g.give {l = l} {m = m} {n = n} {i = i} {monitor = c}) =
     taken (token (fixed l w.Give) refl (token (sign m s.LeftParenthesis) refl (token (at n (What.Number c)) refl (token (sign i s.RightParenthesis) refl nothing)))) refl (λ z. g.give)
+simple_taken (g.controlled_wait {l = l} {m = m} {n = n} {i = i} {j = j} {g = o} {h = h} {d = d} x r q) =
+    let y = address_taken x in
+    let c = address_taken r in
+    let u = commas_taken SpellsNumber (λ b c e d. number_taken d) q in
+    taken (token (fixed l w.ControlledWait) refl (token (sign m s.LeftParenthesis) refl (both y.p (token (sign n s.Comma) refl (both c.p (token (sign i s.Comma) refl
+    (both u.p (token (sign j s.Comma) refl (token (sign o s.Minus) refl (token (at h (What.Number 1)) refl (token (sign d s.RightParenthesis) refl nothing)))))))))))
+    (ap (λ (t : List Item). fixed l w.ControlledWait ∷ sign m s.LeftParenthesis ∷ t)
+    (y.parts ∙ ap (λ (t : List Item). y.p.put (sign n s.Comma ∷ t)) (c.parts ∙ ap (λ (t : List Item). c.p.put (sign i s.Comma ∷ t)) u.parts)))
+    (λ z. g.controlled_wait (y.again (sign n s.Comma ∷ c.p.put (sign i s.Comma ∷ u.p.put (sign j s.Comma ∷ sign o s.Minus ∷ at h (What.Number 1) ∷ sign d s.RightParenthesis ∷ z))))
+    (c.again (sign i s.Comma ∷ u.p.put (sign j s.Comma ∷ sign o s.Minus ∷ at h (What.Number 1) ∷ sign d s.RightParenthesis ∷ z)))
+    (u.again (sign j s.Comma ∷ sign o s.Minus ∷ at h (What.Number 1) ∷ sign d s.RightParenthesis ∷ z)))

@@ -3,15 +3,15 @@ use Rattle.std.proofs.Common.{Bool, List, ◌∷◌, refl, ap, ◌∙◌}
 use Rattle.c_lexer.specs.declared.token.Sign.TheVariants as s
 use Rattle.c_tree.specs.declared.program.Kind.{Kind}
 use Rattle.c_tree.specs.declared.program.Slot.{Slot}
-use Rattle.c_tree.specs.Expressions.{Expr}
+use Rattle.c_tree.specs.Expressions.{Expr, Place}
 use Rattle.c_tree.specs.Lined.{Stmt}
 use Rattle.c_grammar.specs.declared.words.FixedWord.TheVariants as w
 use Rattle.c_grammar.specs.Items.{What, Item, at, sign, fixed}
 use Rattle.c_grammar.specs.Levels.{Tall}
 use Rattle.c_grammar.specs.Statements as g
-use Rattle.c_grammar.specs.Statements.{SpellsFirst, SpellsTest, SpellsLast, SpellsStatement, SpellsArm, SpellsList, SpellsStatic, SpellsSlot, SpellsSlots, Body, SpellsBody}
+use Rattle.c_grammar.specs.Statements.{SpellsFirst, SpellsTest, SpellsLast, Choice, SpellsTry, SpellsChoice, SpellsStatement, SpellsArm, SpellsList, SpellsStatic, SpellsSlot, SpellsSlots, Body, SpellsBody}
 use Rattle.c_fronts.proofs.Put.{nothing, token, both, Taken, taken, named, commas_taken}
-use Rattle.c_fronts.proofs.Expressions.{T, whole_taken}
+use Rattle.c_fronts.proofs.Expressions.{T, whole_taken, address_taken}
 use Rattle.c_fronts.proofs.Simple.{step_taken, simple_taken}
 
 first_taken : {before after : List Item} {x : Tall (List Stmt)} → SpellsFirst before after x → T SpellsFirst before after x
@@ -29,17 +29,34 @@ last_taken : {before after : List Item} {x : Tall (List Stmt)} → SpellsLast be
 last_taken g.none = taken nothing refl (λ z. g.none)
 last_taken (g.step x) = let y = step_taken x in taken y.p y.parts (λ z. g.step (y.again z))
 
+try_taken : {before after : List Item} {p : Tall Place} → SpellsTry before after p → T SpellsTry before after p
+try_taken (g.try {l = l} {m = m} {n = n} x) =
+    let y = address_taken x in
+    taken (token (fixed l w.TryLock) refl (token (sign m s.LeftParenthesis) refl (both y.p (token (sign n s.RightParenthesis) refl nothing))))
+    (ap (λ (t : List Item). fixed l w.TryLock ∷ sign m s.LeftParenthesis ∷ t) y.parts) (λ z. g.try (y.again (sign n s.RightParenthesis ∷ z)))
+
+choice_taken : {before after : List Item} {c : Tall Choice} → SpellsChoice before after c → T SpellsChoice before after c
+choice_taken (g.value x) = let y = whole_taken x in taken y.p y.parts (λ z. g.value (y.again z))
+choice_taken (g.tried x) = let y = try_taken x in taken y.p y.parts (λ z. g.tried (y.again z))
+choice_taken (g.not_tried {l = l} x) = let y = try_taken x in taken (token (sign l s.Not) refl y.p) (ap (λ (t : List Item). sign l s.Not ∷ t) y.parts) (λ z. g.not_tried (y.again z))
+choice_taken (g.zero {l = l} {m = m} x) =
+    let y = try_taken x in
+    taken (both y.p (token (sign l s.Equal) refl (token (at m (What.Number 0)) refl nothing))) y.parts (λ z. g.zero (y.again (sign l s.Equal ∷ at m (What.Number 0) ∷ z)))
+choice_taken (g.other {l = l} {m = m} x) =
+    let y = try_taken x in
+    taken (both y.p (token (sign l s.NotEqual) refl (token (at m (What.Number 0)) refl nothing))) y.parts (λ z. g.other (y.again (sign l s.NotEqual ∷ at m (What.Number 0) ∷ z)))
+
 mutual
   pub statement_taken : {k : Kind} {b : Bool} {before after : List Item} {x : Tall (List Stmt)} → SpellsStatement k b before after x → T (SpellsStatement k b) before after x
   statement_taken (g.simple {l = l} x) = let y = simple_taken x in taken (both y.p (token (sign l s.Semicolon) refl nothing)) y.parts (λ z. g.simple (y.again (sign l s.Semicolon ∷ z)))
   statement_taken (g.empty {l = l}) = taken (token (sign l s.Semicolon) refl nothing) refl (λ z. g.empty)
   statement_taken (g.if_only {l = l} {m = m} {n = n} x a) =
-      let y = whole_taken x in
+      let y = choice_taken x in
       let r = arm_taken a in
       taken (token (fixed l w.If) refl (token (sign m s.LeftParenthesis) refl (both y.p (token (sign n s.RightParenthesis) refl r.p))))
       (ap (λ (t : List Item). fixed l w.If ∷ sign m s.LeftParenthesis ∷ t) (y.parts ∙ ap (λ (t : List Item). y.p.put (sign n s.RightParenthesis ∷ t)) r.parts)) (λ z. g.if_only (y.again (sign n s.RightParenthesis ∷ r.p.put z)) (r.again z))
   statement_taken (g.if_else {l = l} {m = m} {n = n} {i = i} x a c) =
-      let y = whole_taken x in
+      let y = choice_taken x in
       let r = arm_taken a in
       let q = arm_taken c in
       taken (token (fixed l w.If) refl (token (sign m s.LeftParenthesis) refl (both y.p (token (sign n s.RightParenthesis) refl (both r.p (token (fixed i w.Else) refl q.p))))))

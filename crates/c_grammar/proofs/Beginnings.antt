@@ -37,6 +37,8 @@ callee_name : (a : What) {f : List ℕ} → callee a ≡ Some f → is_some (nam
 callee_name (What.Name n) q = refl
 callee_name (What.Fixed w.Main) q = refl
 callee_name (What.Fixed w.Parameter) q = refl
+callee_name (What.Fixed w.ConditionParameter) q = refl
+callee_name (What.Fixed w.MutexParameter) q = refl
 callee_name (What.Fixed _) q = absurd (none-some _ q)
 callee_name _ q = absurd (none-some _ q)
 

@@ -5,7 +5,7 @@ use Rattle.c_lexer.specs.declared.token.Sign.TheVariants as s
 use Rattle.c_lexer.specs.Pieces.{Kind, Piece}
 use Rattle.c_lexer.specs.Lexeme.{lexeme, Longest}
 use Rattle.c_lexer.specs.Words.{name_of}
-use Rattle.c_lexer.specs.Signs.{single, double}
+use Rattle.c_lexer.specs.Signs.{single, double, triple}
 use Rattle.c_lexer.specs.Classes.{is_word}
 use Rattle.c_lexer.specs.Tokens as t
 use Rattle.c_lexer.specs.Tokens.{Word, Tokens, is_first, line}
@@ -52,9 +52,10 @@ ended_by : (first : Bool) (w : List ℕ) (b : ℕ) (rest : List ℕ) → ((more 
 ended_by first w b rest h c more after q = subst (λ (c : ℕ). lexeme first (w ++ c ∷ more) after ≡ None) (ap first_byte q) (h more after)
 
 after_sign : (first : Bool) (more after : List ℕ) → lexeme first (59 ∷ 10 ∷ more) after ≡ None
-unfolding lexeme double
+unfolding lexeme double triple
 after_sign first [] after = refl
-after_sign first (b ∷ more) after = refl
+after_sign first (b ∷ []) after = refl
+after_sign first (b ∷ c ∷ more) after = refl
 
 int_word : Longest true (codes "int") (codes " x;\n") (Piece.token Kind.name)
 unfolding lexeme name_of is_word

@@ -36,7 +36,7 @@ abbrev just : List ℕ → Tall Expr
 just n = over (tree.Name n) 0
 
 abbrev third : List Item
-third = at 1 (What.Name (codes "c")) ∷ []
+third = fixed 1 w.ConditionParameter ∷ []
 
 abbrev second : List Item
 second = at 1 (What.Name (codes "b")) ∷ sign 1 s.Minus ∷ third

@@ -7,7 +7,9 @@ use Rattle.c_lexer.specs.Words.{name_of, number_of}
 use Rattle.c_lexer.specs.Signs.{single, double}
 use Rattle.c_lexer.specs.Classes.{is_word}
 use Rattle.c_lexer.specs.Directives.{after_include, definition, defined_name, defined_number}
+use Rattle.c_lexer.specs.declared.token.Sign.{Sign}
 use Rattle.c_lexer.specs.declared.token.Sign.TheVariants as s
+use Rattle.c_tree.specs.declared.expr.Op.{Op}
 use Rattle.c_tree.specs.declared.program.Kind.{Kind}
 use Rattle.c_tree.specs.declared.program.Kind.TheVariants as kind
 use Rattle.c_tree.specs.Expressions.{Expr, Place}
@@ -19,14 +21,14 @@ use Rattle.c_grammar.specs.Levels.{Tall}
 use Rattle.c_grammar.specs.Commas as comma
 use Rattle.c_grammar.specs.Commas.{Commas}
 use Rattle.c_grammar.specs.Expressions as e
-use Rattle.c_grammar.specs.Expressions.{SpellsExpression, SpellsWhole, SpellsExpressions, SpellsPlace, SpellsCall, Called}
+use Rattle.c_grammar.specs.Expressions.{SpellsExpression, SpellsWhole, SpellsExpressions, SpellsPlace, SpellsCall, Called, operator}
 use Rattle.c_grammar.specs.Simple as x
-use Rattle.c_grammar.specs.Simple.{SpellsStep, SpellsDeclarator}
+use Rattle.c_grammar.specs.Simple.{SpellsStep, SpellsDeclarator, SpellsNumber}
 use Rattle.c_grammar.specs.Statements as st
-use Rattle.c_grammar.specs.Statements.{SpellsStatement}
+use Rattle.c_grammar.specs.Statements.{SpellsStatement, Choice, SpellsChoice}
 use Rattle.c_grammar.specs.Heads.{begins_statement, begins_expression, Wanted, end_of}
 use Rattle.c_grammar.specs.Samples.{items_of}
-use Rattle.c_grammar.specs.NotSpelled.{NoStatement, Never, OtherStatements, CallsInside, Unfinished, OtherReturns, OtherCalls}
+use Rattle.c_grammar.specs.NotSpelled.{NoStatement, Never, OtherStatements, CallsInside, Unfinished, OtherReturns, OtherCalls, OtherTrylocks}
 use Rattle.c_grammar.proofs.Beginnings.{statement_begins, expressions_end, expression_begins}
 
 pub false_true : false ≡ true → ⊥
@@ -283,5 +285,83 @@ null_called k b rest y (st.simple (x.step h)) = paren_step h
 null_called k b rest y (st.simple (x.call h)) = paren_call refl h
 null_called k b rest y (st.simple (x.call_into p h)) = elim p [ ]
 
+no_number : {l : ℕ} {ts rest : List Item} {n : ℕ} → SpellsNumber (sign l s.Minus ∷ ts) rest n → ⊥
+no_number h = elim h [ ]
+
+wait_without_takes_items : (k : Kind) (b : Bool) (rest : List Item) (y : Tall (List Stmt)) → SpellsStatement k b
+    (fixed 1 w.ControlledWait ∷ sign 1 s.LeftParenthesis ∷ sign 1 s.Ampersand ∷ fixed 1 w.ConditionParameter ∷ sign 1 s.Comma ∷ sign 1 s.Ampersand ∷ fixed 1 w.MutexParameter ∷ sign 1 s.Comma ∷ sign 1 s.Minus ∷ at 1 (What.Number 1) ∷ sign 1 s.RightParenthesis ∷ sign 1 s.Semicolon ∷ [])
+    rest y → ⊥
+wait_without_takes_items k b rest y (st.simple (x.step h)) = paren_step h
+wait_without_takes_items k b rest y (st.simple (x.call h)) = paren_call refl h
+wait_without_takes_items k b rest y (st.simple (x.call_into p h)) = elim p [ ]
+wait_without_takes_items k b rest y (st.simple (x.controlled_wait (e.address (e.scalar n)) (e.address (e.scalar m)) hs)) = no_number (first_part hs).2
+
+wait_without_takes : Never (codes "gd_cond_wait ( & c , & m , - 1 ) ;")
+unfolding lexeme name_of number_of single double is_word after_include definition defined_name defined_number
+wait_without_takes = wait_without_takes_items
+
 pub other_calls : OtherCalls
-other_calls = (print_of_name, scan_of_two, lock_of_value, join_with_number, create_with_number, take_of_name, null_called)
+other_calls = (print_of_name, scan_of_two, lock_of_value, join_with_number, create_with_number, take_of_name, null_called, wait_without_takes)
+
+-- ---- trylocks elsewhere
+
+trylock_alone : Never (codes "pthread_mutex_trylock ( & a ) ;")
+unfolding lexeme name_of number_of single double is_word after_include definition defined_name defined_number
+trylock_alone k b rest y (st.simple (x.step h)) = paren_step h
+trylock_alone k b rest y (st.simple (x.call h)) = paren_call refl h
+trylock_alone k b rest y (st.simple (x.call_into p h)) = elim p [ ]
+
+trylock_assigned_right : {rest : List Item} → Right (fixed 1 w.TryLock ∷ sign 1 s.LeftParenthesis ∷ sign 1 s.Ampersand ∷ at 1 (What.Name (codes "a")) ∷ sign 1 s.RightParenthesis ∷ sign 1 s.Semicolon ∷ []) rest → ⊥
+trylock_assigned_right (value v) = no_end refl v
+trylock_assigned_right (called (e.with_arguments q all)) = none-some _ q
+
+trylock_assigned_items : (k : Kind) (b : Bool) (rest : List Item) (y : Tall (List Stmt)) → SpellsStatement k b
+    (at 1 (What.Name (codes "x")) ∷ sign 1 s.Assign ∷ fixed 1 w.TryLock ∷ sign 1 s.LeftParenthesis ∷ sign 1 s.Ampersand ∷ at 1 (What.Name (codes "a")) ∷ sign 1 s.RightParenthesis ∷ sign 1 s.Semicolon ∷ [])
+    rest y → ⊥
+trylock_assigned_items k b rest y h = trylock_assigned_right (right_of h)
+
+trylock_assigned : Never (codes "x = pthread_mutex_trylock ( & a ) ;")
+unfolding lexeme name_of number_of single double is_word after_include definition defined_name defined_number
+trylock_assigned = trylock_assigned_items
+
+-- These tokens begin with a `(`.
+data AtParenthesis : List Item → Type 0 where
+  there : {l : ℕ} {ts : List Item} → AtParenthesis (sign l s.LeftParenthesis ∷ ts)
+
+-- An expression that begins with a word before `(` is that word.
+word_alone : {l m : ℕ} {word : FixedWord} {ts rest : List Item} {j : ℕ} {v : Tall Expr}
+    → SpellsExpression j (fixed l word ∷ sign m s.LeftParenthesis ∷ ts) rest v → AtParenthesis rest
+word_alone (e.unary (e.primary (e.name q))) = there
+word_alone (e.unary (e.primary (e.argument c q))) = elim c [ ]
+word_alone (e.tighter h) = word_alone h
+word_alone (e.binary h q r i) = absurd (no_operator (word_alone h) q)
+  where
+    no_operator : {l : ℕ} {t : Sign} {ts : List Item} {o : Op} → AtParenthesis (sign l t ∷ ts) → operator t ≡ Some o → ⊥
+    no_operator there q = none-some _ q
+
+no_parenthesis : {l : ℕ} {ts : List Item} → AtParenthesis (sign l s.RightParenthesis ∷ ts) → ⊥
+no_parenthesis h = elim h [ ]
+
+compared_with_one : (l : ℕ) (rest : List Item) (c : Tall Choice)
+    → SpellsChoice (fixed 1 w.TryLock ∷ sign 1 s.LeftParenthesis ∷ sign 1 s.Ampersand ∷ at 1 (What.Name (codes "a")) ∷ sign 1 s.RightParenthesis ∷ sign 1 s.Equal
+    ∷ at 1 (What.Number 1) ∷ sign 1 s.RightParenthesis ∷ sign 1 s.Semicolon ∷ []) (sign l s.RightParenthesis ∷ rest) c → ⊥
+compared_with_one l rest c (st.value v) = no_parenthesis (word_alone v)
+compared_with_one l rest c (st.tried (st.try (e.address p))) = elim p [ ]
+compared_with_one l rest c (st.zero (st.try (e.address p))) = elim p [ ]
+compared_with_one l rest c (st.other (st.try (e.address p))) = elim p [ ]
+
+trylock_is_one_items : (k : Kind) (b : Bool) (rest : List Item) (y : Tall (List Stmt)) → SpellsStatement k b
+    (fixed 1 w.If ∷ sign 1 s.LeftParenthesis ∷ fixed 1 w.TryLock ∷ sign 1 s.LeftParenthesis ∷ sign 1 s.Ampersand ∷ at 1 (What.Name (codes "a")) ∷ sign 1 s.RightParenthesis ∷ sign 1 s.Equal ∷ at 1 (What.Number 1) ∷ sign 1 s.RightParenthesis ∷ sign 1 s.Semicolon ∷ [])
+    rest y → ⊥
+trylock_is_one_items k b rest y (st.if_only c one) = compared_with_one _ _ _ c
+trylock_is_one_items k b rest y (st.if_else c one two) = compared_with_one _ _ _ c
+trylock_is_one_items k b rest y (st.simple (x.step h)) = word_step refl h
+trylock_is_one_items k b rest y (st.simple (x.call h)) = paren_call refl h
+trylock_is_one_items k b rest y (st.simple (x.call_into p h)) = elim p [ ]
+
+trylock_is_one : Never (codes "if ( pthread_mutex_trylock ( & a ) == 1 ) ;")
+unfolding lexeme name_of number_of single double is_word after_include definition defined_name defined_number
+trylock_is_one = trylock_is_one_items
+
+pub other_trylocks : OtherTrylocks
+other_trylocks = (trylock_alone, trylock_assigned, trylock_is_one)

@@ -2,7 +2,7 @@
 use Rattle.std.proofs.Common.{ℕ, zero, suc, List, ◌∷◌, refl}
 use Rattle.c_lexer.specs.Lexeme.{lexeme}
 use Rattle.c_lexer.specs.Words.{name_of, number_of}
-use Rattle.c_lexer.specs.Signs.{single, double}
+use Rattle.c_lexer.specs.Signs.{single, double, triple}
 use Rattle.c_lexer.specs.Classes.{is_word}
 use Rattle.c_lexer.specs.Directives.{after_include, definition, defined_name, defined_number}
 use Rattle.c_tree.specs.Expressions as tree
@@ -15,7 +15,7 @@ use Rattle.c_grammar.specs.Simple as x
 use Rattle.c_grammar.specs.Statements as st
 use Rattle.c_grammar.specs.Declarations as d
 use Rattle.c_grammar.specs.Programs as p
-use Rattle.c_grammar.specs.Spelled.{Declarations, MonitorCalls, Functions, Threads, Philosophers, DefinedKeyword, Assignments, Calls, LibraryCalls, Expressions, Casts, Choices, Loops, Lines}
+use Rattle.c_grammar.specs.Spelled.{Declarations, MonitorCalls, Functions, Threads, Philosophers, DefinedKeyword, Assignments, Calls, LibraryCalls, Expressions, Casts, Choices, Trylocks, Loops, Lines}
 
 -- An expression without operators, where operators may stand.
 within : (k : ℕ) {ts rest : List Item} {a : Tall tree.Expr} → SpellsUnary ts rest a → SpellsExpression k ts rest a
@@ -54,12 +54,13 @@ declarations_are_spelled =
     (st.slots st.present (comma.more (comma.one (st.SpellsSlot.one refl)) (st.several refl))))
 
 pub monitor_calls_are_spelled : MonitorCalls
-unfolding lexeme name_of number_of single double is_word after_include definition defined_name defined_number
+unfolding lexeme name_of number_of single double triple is_word after_include definition defined_name defined_number
 monitor_calls_are_spelled =
-    p.with_capacities (d.capacities (comma.more (comma.one d.number) d.number) d.prototype d.prototype) (p.then_function p.none
-    (d.function st.absent (d.thread_function refl refl) (st.SpellsBody.then (st.SpellsBody.then (st.SpellsBody.then st.SpellsBody.none
+    p.with_capacities (d.capacities (comma.more (comma.one x.number) x.number) d.prototype d.prototype d.SpellsWaitPrototype.present) (p.then_function p.none
+    (d.function st.absent (d.thread_function refl refl) (st.SpellsBody.then (st.SpellsBody.then (st.SpellsBody.then (st.SpellsBody.then st.SpellsBody.none
     (st.simple x.take))
     (st.simple x.give))
+    (st.simple (x.controlled_wait (e.address (e.scalar refl)) (e.address (e.scalar refl)) (comma.more (comma.one x.number) x.number))))
     (st.simple (x.give_back x.null_of_thread)))))
 
 pub functions_are_spelled : Functions
@@ -139,11 +140,13 @@ assignments_are_spelled =
 pub calls_are_spelled : Calls
 unfolding lexeme name_of number_of single double is_word after_include definition defined_name defined_number
 calls_are_spelled =
-    st.SpellsList.then (st.SpellsList.then (st.SpellsList.then (st.SpellsList.then (st.SpellsList.then st.SpellsList.none
+    st.SpellsList.then (st.SpellsList.then (st.SpellsList.then (st.SpellsList.then (st.SpellsList.then (st.SpellsList.then (st.SpellsList.then st.SpellsList.none
     (st.simple (x.declare (comma.more (comma.more (comma.one (x.bare refl)) (x.by_value refl (whole (e.primary e.number)))) (x.by_call refl (e.with_arguments refl (comma.more (comma.one (whole (e.primary (e.name refl)))) (whole (e.primary e.number)))))))))
     (st.simple (x.call (e.no_arguments refl))))
     (st.simple (x.call_into (e.scalar refl) (e.with_arguments refl (comma.one (whole (e.primary (e.name refl))))))))
     (st.simple (x.call_into (e.member refl (whole (e.primary e.number))) (e.no_arguments refl))))
+    (st.simple (x.call (e.no_arguments refl))))
+    (st.simple (x.call (e.no_arguments refl))))
     (st.simple (x.call (e.no_arguments refl)))
 
 pub library_calls_are_spelled : LibraryCalls
@@ -191,11 +194,24 @@ pub choices_are_spelled : Choices
 unfolding lexeme name_of number_of single double is_word after_include definition defined_name defined_number
 choices_are_spelled =
     st.SpellsList.then (st.SpellsList.then st.SpellsList.none
-    (st.if_only (whole (e.primary (e.name refl))) (st.single (st.if_else (whole (e.primary (e.name refl))) (st.single (st.simple (x.step (x.assign (e.scalar refl) (whole (e.primary e.number)))))) (st.single (st.simple (x.step (x.assign (e.scalar refl) (whole (e.primary e.number))))))))))
-    (st.if_else (whole (e.primary (e.name refl))) (st.braces (st.SpellsList.then st.SpellsList.none
-    (st.if_only (whole (e.primary (e.name refl))) (st.single st.empty)))) (st.single (st.if_else (whole (e.primary (e.name refl))) (st.single st.empty) (st.braces (st.SpellsList.then (st.SpellsList.then st.SpellsList.none
+    (st.if_only (st.value (whole (e.primary (e.name refl)))) (st.single (st.if_else (st.value (whole (e.primary (e.name refl)))) (st.single (st.simple (x.step (x.assign (e.scalar refl) (whole (e.primary e.number)))))) (st.single (st.simple (x.step (x.assign (e.scalar refl) (whole (e.primary e.number))))))))))
+    (st.if_else (st.value (whole (e.primary (e.name refl)))) (st.braces (st.SpellsList.then st.SpellsList.none
+    (st.if_only (st.value (whole (e.primary (e.name refl)))) (st.single st.empty)))) (st.single (st.if_else (st.value (whole (e.primary (e.name refl)))) (st.single st.empty) (st.braces (st.SpellsList.then (st.SpellsList.then st.SpellsList.none
     (st.simple (x.step (x.assign (e.scalar refl) (whole (e.primary e.number))))))
     (st.simple (x.step (x.assign (e.scalar refl) (whole (e.primary e.number))))))))))
+
+pub trylocks_are_spelled : Trylocks
+unfolding lexeme name_of number_of single double is_word after_include definition defined_name defined_number
+trylocks_are_spelled =
+    st.SpellsList.then (st.SpellsList.then (st.SpellsList.then (st.SpellsList.then (st.SpellsList.then (st.SpellsList.then (st.SpellsList.then (st.SpellsList.then st.SpellsList.none
+    (st.if_else (st.tried (st.try (e.address (e.scalar refl)))) (st.single (st.simple (x.step (x.assign (e.scalar refl) (whole (e.primary e.number)))))) (st.single (st.simple (x.step (x.assign (e.scalar refl) (whole (e.primary e.number))))))))
+    (st.if_else (st.not_tried (st.try (e.address (e.member refl (whole (e.primary (e.name refl))))))) (st.single (st.simple (x.step (x.assign (e.scalar refl) (whole (e.primary e.number)))))) (st.single (st.simple (x.step (x.assign (e.scalar refl) (whole (e.primary e.number))))))))
+    (st.if_else (st.zero (st.try (e.address (e.scalar refl)))) (st.single (st.simple (x.step (x.assign (e.scalar refl) (whole (e.primary e.number)))))) (st.single (st.simple (x.step (x.assign (e.scalar refl) (whole (e.primary e.number))))))))
+    (st.if_else (st.other (st.try (e.address (e.member refl (whole (e.primary e.number)))))) (st.single (st.simple (x.step (x.assign (e.scalar refl) (whole (e.primary e.number)))))) (st.single (st.simple (x.step (x.assign (e.scalar refl) (whole (e.primary e.number))))))))
+    (st.if_only (st.tried (st.try (e.address (e.scalar refl)))) (st.single (st.simple (x.step (x.assign (e.scalar refl) (whole (e.primary e.number))))))))
+    (st.if_only (st.not_tried (st.try (e.address (e.member refl (whole (e.primary (e.name refl))))))) (st.single (st.simple (x.step (x.assign (e.scalar refl) (whole (e.primary e.number))))))))
+    (st.if_only (st.zero (st.try (e.address (e.scalar refl)))) (st.single (st.simple (x.step (x.assign (e.scalar refl) (whole (e.primary e.number))))))))
+    (st.if_only (st.other (st.try (e.address (e.member refl (whole (e.primary e.number)))))) (st.single (st.simple (x.step (x.assign (e.scalar refl) (whole (e.primary e.number)))))))
 
 pub loops_are_spelled : Loops
 unfolding lexeme name_of number_of single double is_word after_include definition defined_name defined_number
@@ -204,7 +220,7 @@ loops_are_spelled =
     (st.while (whole (e.primary (e.name refl))) (st.single (st.simple (x.step (x.count_after (e.scalar refl) refl))))))
     (st.for st.SpellsFirst.none st.missing st.SpellsLast.none (st.braces st.SpellsList.none)))
     (st.for (st.SpellsFirst.declare refl (whole (e.primary e.number))) (st.given (from3 (e.binary (within 3 (e.primary (e.name refl))) refl refl (within 2 (e.primary e.number))))) (st.SpellsLast.step (x.count_after (e.scalar refl) refl)) (st.single (st.simple (x.step (x.assign (e.scalar refl) (whole (e.primary (e.name refl)))))))))
-    (st.for (st.SpellsFirst.step (x.assign (e.scalar refl) (whole (e.primary e.number)))) (st.given (whole (e.primary e.number))) st.SpellsLast.none (st.single (st.if_only (whole (e.primary (e.name refl))) (st.single st.empty))))
+    (st.for (st.SpellsFirst.step (x.assign (e.scalar refl) (whole (e.primary e.number)))) (st.given (whole (e.primary e.number))) st.SpellsLast.none (st.single (st.if_only (st.value (whole (e.primary (e.name refl)))) (st.single st.empty))))
 
 pub lines_are_spelled : Lines
 unfolding lexeme name_of number_of single double is_word after_include definition defined_name defined_number

@@ -13,11 +13,8 @@ use Rattle.c_grammar.specs.declared.words.FixedWord.TheVariants as w
 use Rattle.c_grammar.specs.Items.{What, Item, at, sign, fixed, spelling, name_of, cell_name, function_name}
 use Rattle.c_grammar.specs.Levels.{Tall, tall}
 use Rattle.c_grammar.specs.Commas.{Commas}
+use Rattle.c_grammar.specs.Simple.{SpellsNumber}
 use Rattle.c_grammar.specs.Statements.{SpellsStatic, Body, SpellsBody}
-
--- K
-pub data SpellsNumber : List Item → List Item → ℕ → Type 0 where
-  number : {l k : ℕ} {rest : List Item} → SpellsNumber (at l (What.Number k) ∷ rest) rest k
 
 -- value = [-] K
 pub data SpellsValue : List Item → List Item → ℤ → Type 0 where
@@ -116,11 +113,19 @@ pub data SpellsPrototype (word : FixedWord) : List Item → List Item → Type 0
       → SpellsPrototype word
       (fixed l w.Void ∷ fixed m word ∷ sign n s.LeftParenthesis ∷ fixed i w.Int ∷ fixed j w.Parameter ∷ sign g s.RightParenthesis ∷ sign h s.Semicolon ∷ rest) rest
 
--- gdhead = int gd_cap [ K ] = { K {, K} } ; void gd_take ( int k ) ; void gd_give ( int k ) ;
+-- [void gd_cond_wait ( pthread_cond_t * c , pthread_mutex_t * m , ... ) ;]
+pub data SpellsWaitPrototype : List Item → List Item → Type 0 where
+  absent : {ts : List Item} → SpellsWaitPrototype ts ts
+  present : {a b c d e f g h i j k l m n : ℕ} {rest : List Item}
+      → SpellsWaitPrototype
+      (fixed a w.Void ∷ fixed b w.ControlledWait ∷ sign c s.LeftParenthesis ∷ fixed d w.Condition ∷ sign e s.Star ∷ fixed f w.ConditionParameter ∷ sign g s.Comma
+      ∷ fixed h w.Mutex ∷ sign i s.Star ∷ fixed j w.MutexParameter ∷ sign k s.Comma ∷ sign l s.Ellipsis ∷ sign m s.RightParenthesis ∷ sign n s.Semicolon ∷ rest) rest
+
+-- gdhead = int gd_cap [ K ] = { K {, K} } ; void gd_take ( int k ) ; void gd_give ( int k ) ; and the declaration of `gd_cond_wait`, if it is there
 pub data SpellsCapacities : List Item → List Item → Capacities → Type 0 where
-  capacities : {l m n i j g h d e len : ℕ} {ts mid next rest : List Item} {all : List ℕ}
+  capacities : {l m n i j g h d e len : ℕ} {ts mid next last rest : List Item} {all : List ℕ}
       → Commas SpellsNumber ts (sign d s.RightBrace ∷ sign e s.Semicolon ∷ mid) all
-      → SpellsPrototype w.Take mid next → SpellsPrototype w.Give next rest
+      → SpellsPrototype w.Take mid next → SpellsPrototype w.Give next last → SpellsWaitPrototype last rest
       → SpellsCapacities
       (fixed l w.Int ∷ fixed m w.Capacities ∷ sign n s.LeftBracket ∷ at i (What.Number len) ∷ sign j s.RightBracket ∷ sign g s.Assign ∷ sign h s.LeftBrace ∷ ts) rest
       (record { len = len; values = all; line = m })

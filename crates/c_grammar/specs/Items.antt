@@ -55,6 +55,8 @@ spelling w.For = codes "for"
 spelling w.Return = codes "return"
 spelling w.Main = codes "main"
 spelling w.Parameter = codes "k"
+spelling w.ConditionParameter = codes "c"
+spelling w.MutexParameter = codes "m"
 spelling w.Null = codes "NULL"
 spelling w.IntPointer = codes "intptr_t"
 spelling w.Print = codes "printf"
@@ -69,6 +71,7 @@ spelling w.Join = codes "pthread_join"
 spelling w.InitMutex = codes "pthread_mutex_init"
 spelling w.InitCondition = codes "pthread_cond_init"
 spelling w.Lock = codes "pthread_mutex_lock"
+spelling w.TryLock = codes "pthread_mutex_trylock"
 spelling w.Unlock = codes "pthread_mutex_unlock"
 spelling w.Wait = codes "pthread_cond_wait"
 spelling w.Signal = codes "pthread_cond_signal"
@@ -76,6 +79,7 @@ spelling w.Broadcast = codes "pthread_cond_broadcast"
 spelling w.Capacities = codes "gd_cap"
 spelling w.Take = codes "gd_take"
 spelling w.Give = codes "gd_give"
+spelling w.ControlledWait = codes "gd_cond_wait"
 
 -- The words that the grammar spells out and that are keywords of C (ISO/IEC 9899:1999, section 6.4.1).
 abbrev pub fixed_keywords : List FixedWord
@@ -84,8 +88,9 @@ fixed_keywords = w.Int ∷ w.Void ∷ w.Static ∷ w.Long ∷ w.If ∷ w.Else �
 -- Those that aren't.
 abbrev pub fixed_names : List FixedWord
 fixed_names =
-    w.Main ∷ w.Parameter ∷ w.Null ∷ w.IntPointer ∷ w.Print ∷ w.Scan ∷ w.Thread ∷ w.Mutex ∷ w.Condition ∷ w.MutexInitializer ∷ w.ConditionInitializer
-    ∷ w.Create ∷ w.Join ∷ w.InitMutex ∷ w.InitCondition ∷ w.Lock ∷ w.Unlock ∷ w.Wait ∷ w.Signal ∷ w.Broadcast ∷ w.Capacities ∷ w.Take ∷ w.Give ∷ []
+    w.Main ∷ w.Parameter ∷ w.ConditionParameter ∷ w.MutexParameter ∷ w.Null ∷ w.IntPointer ∷ w.Print ∷ w.Scan ∷ w.Thread ∷ w.Mutex ∷ w.Condition ∷ w.MutexInitializer ∷ w.ConditionInitializer
+    ∷ w.Create ∷ w.Join ∷ w.InitMutex ∷ w.InitCondition ∷ w.Lock ∷ w.TryLock ∷ w.Unlock ∷ w.Wait ∷ w.Signal ∷ w.Broadcast
+    ∷ w.Capacities ∷ w.Take ∷ w.Give ∷ w.ControlledWait ∷ []
 
 -- The other keywords of C.
 abbrev pub other_keywords : List (List ℕ)
@@ -128,10 +133,12 @@ abbrev pub function_name : What → Option (List ℕ)
 function_name (Fixed w.Main) = None
 function_name what = name_of what
 
--- A name that may be called: of those that the grammar spells out only `main` and `k`.
+-- A name that may be called: of those that the grammar spells out only `main` and the parameters `k`, `c` and `m`.
 abbrev pub callee : What → Option (List ℕ)
 callee (Fixed w.Main) = Some (spelling w.Main)
 callee (Fixed w.Parameter) = Some (spelling w.Parameter)
+callee (Fixed w.ConditionParameter) = Some (spelling w.ConditionParameter)
+callee (Fixed w.MutexParameter) = Some (spelling w.MutexParameter)
 callee (Fixed word) = None
 callee what = name_of what
 

@@ -48,7 +48,12 @@ abbrev pub OtherCalls : Type 0
 OtherCalls =
     Never (codes "printf ( x ) ;") × Never (codes "scanf ( \"%d%d\" , & x ) ;") × Never (codes "pthread_mutex_lock ( m ) ;")
     × Never (codes "pthread_join ( t , 0 ) ;") × Never (codes "pthread_create ( & t , 0 , f , NULL ) ;") × Never (codes "gd_take ( x ) ;")
-    × Never (codes "NULL ( ) ;")
+    × Never (codes "NULL ( ) ;") × Never (codes "gd_cond_wait ( & c , & m , - 1 ) ;")
+
+-- A trylock stands in the test of an `if` alone, and is compared with 0 alone.
+abbrev pub OtherTrylocks : Type 0
+OtherTrylocks =
+    Never (codes "pthread_mutex_trylock ( & a ) ;") × Never (codes "x = pthread_mutex_trylock ( & a ) ;") × Never (codes "if ( pthread_mutex_trylock ( & a ) == 1 ) ;")
 
 -- Operators of one looseness group to the left: the other tree isn't spelled without parentheses.
 abbrev pub GroupsLeft : Type 0

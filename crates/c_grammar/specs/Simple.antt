@@ -87,6 +87,12 @@ pub data SpellsResult : Kind → List Item → List Item → Tall (Option Expr) 
   null_of_thread : {l : ℕ} {rest : List Item} → SpellsResult kind.Thread (fixed l w.Null ∷ rest) rest (tall None 0)
   zero_of_thread : {l : ℕ} {rest : List Item} → SpellsResult kind.Thread (at l (What.Number 0) ∷ rest) rest (tall None 0)
 
+-- ---- numbers
+
+-- K
+pub data SpellsNumber : List Item → List Item → ℕ → Type 0 where
+  number : {l k : ℕ} {rest : List Item} → SpellsNumber (at l (What.Number k) ∷ rest) rest k
+
 -- ---- simple statements, without their `;`
 
 abbrev pub number_format : List ℕ
@@ -148,7 +154,7 @@ pub data SpellsSimple : Kind → List Item → List Item → Tall (List Stmt) �
   -- pthread_cond_wait ( & place , & place )
   wait : {k : Kind} {l m n i : ℕ} {ts mid rest : List Item} {p q : Tall Place}
       → SpellsAddress ts (sign n s.Comma ∷ mid) p → SpellsAddress mid (sign i s.RightParenthesis ∷ rest) q
-      → SpellsSimple k (fixed l w.Wait ∷ sign m s.LeftParenthesis ∷ ts) rest (alone (lined.Wait l p.tree q.tree) (max p.levels q.levels))
+      → SpellsSimple k (fixed l w.Wait ∷ sign m s.LeftParenthesis ∷ ts) rest (alone (lined.Wait l p.tree q.tree []) (max p.levels q.levels))
   -- pthread_cond_signal ( & place )
   signal : {k : Kind} {l m n : ℕ} {ts rest : List Item} {p : Tall Place}
       → SpellsAddress ts (sign n s.RightParenthesis ∷ rest) p
@@ -165,3 +171,8 @@ pub data SpellsSimple : Kind → List Item → List Item → Tall (List Stmt) �
   give : {k : Kind} {l m n i monitor : ℕ} {rest : List Item}
       → SpellsSimple k (fixed l w.Give ∷ sign m s.LeftParenthesis ∷ at n (What.Number monitor) ∷ sign i s.RightParenthesis ∷ rest) rest
       (alone (lined.Give l monitor) 0)
+  -- gd_cond_wait ( & place , & place , K {, K} , - 1 )
+  controlled_wait : {k : Kind} {l m n i j g h d : ℕ} {ts mid next rest : List Item} {p q : Tall Place} {takes : List ℕ}
+      → SpellsAddress ts (sign n s.Comma ∷ mid) p → SpellsAddress mid (sign i s.Comma ∷ next) q
+      → Commas SpellsNumber next (sign j s.Comma ∷ sign g s.Minus ∷ at h (What.Number 1) ∷ sign d s.RightParenthesis ∷ rest) takes
+      → SpellsSimple k (fixed l w.ControlledWait ∷ sign m s.LeftParenthesis ∷ ts) rest (alone (lined.Wait l p.tree q.tree takes) (max p.levels q.levels))

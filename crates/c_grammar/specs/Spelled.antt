@@ -57,25 +57,27 @@ monitor_calls_text =
     codes "int gd_cap [ 2 ] = { 1 , 3 } ;"
     ∷ codes "void gd_take ( int k ) ;"
     ∷ codes "void gd_give ( int k ) ;"
+    ∷ codes "void gd_cond_wait ( pthread_cond_t * c , pthread_mutex_t * m , ... ) ;"
     ∷ codes "void * f ( void * arg ) {"
     ∷ codes "gd_take ( 0 ) ;"
     ∷ codes "gd_give ( 1 ) ;"
+    ∷ codes "gd_cond_wait ( & c , & m , 0 , 1 , - 1 ) ;"
     ∷ codes "return NULL ; }"
     ∷ []
 
--- Capacities with their declarations, and calls that take and give.
+-- Capacities with their declarations, calls that take and give, and a wait that takes afterwards.
 abbrev pub MonitorCalls : Type 0
-MonitorCalls = Spells 8 (words_of monitor_calls_text) (tall (record {
+MonitorCalls = Spells 10 (words_of monitor_calls_text) (tall (record {
   ints = [];
   arrays = [];
   mutexes = [];
   conds = [];
   threads = [];
   monitors = 1 ∷ 3 ∷ [];
-  functions = record { name = codes "f"; kind = kind.Thread; params = codes "arg" ∷ []; body = lined.listed (lined.Take 5 0 ∷ lined.Give 6 1 ∷ lined.Return 7 None ∷ []); line = 4; end_line = 7 } ∷ [];
+  functions = record { name = codes "f"; kind = kind.Thread; params = codes "arg" ∷ []; body = lined.listed (lined.Take 6 0 ∷ lined.Give 7 1 ∷ lined.Wait 8 (scalar (codes "c")) (scalar (codes "m")) (0 ∷ 1 ∷ []) ∷ lined.Return 9 None ∷ []); line = 5; end_line = 9 } ∷ [];
   cap_len = 2;
   cap_line = 1;
-  end_line = 8;
+  end_line = 10;
 }) 1)
 
 abbrev pub functions_text : List (List ℕ)
@@ -281,10 +283,10 @@ Assignments = SpellsList kind.Main (items_of assignments_text) [] (tall (
 abbrev pub calls_text : List (List ℕ)
 calls_text =
     codes "int a , b = 2 , c = f ( b , 1 ) ;"
-    ∷ codes "f ( ) ; x = g ( a ) ; q [ 0 ] = main ( ) ; k ( ) ;"
+    ∷ codes "f ( ) ; x = g ( a ) ; q [ 0 ] = main ( ) ; k ( ) ; c ( ) ; m ( ) ;"
     ∷ []
 
--- Several declarations at once, a declaration by a call, which is two statements, and calls. `main` and `k` may be called.
+-- Several declarations at once, a declaration by a call, which is two statements, and calls. `main`, `k`, `c` and `m` may be called.
 abbrev pub Calls : Type 0
 Calls = SpellsList kind.Main (items_of calls_text) [] (tall (
     lined.Declare 1 (codes "a") None
@@ -295,6 +297,8 @@ Calls = SpellsList kind.Main (items_of calls_text) [] (tall (
     ∷ lined.Call 2 (Some (scalar (codes "x"))) (codes "g") (tree.listed (tree.Name (codes "a") ∷ []))
     ∷ lined.Call 2 (Some (member (codes "q") (tree.Number 0))) (codes "main") tree.Nil
     ∷ lined.Call 2 None (codes "k") tree.Nil
+    ∷ lined.Call 2 None (codes "c") tree.Nil
+    ∷ lined.Call 2 None (codes "m") tree.Nil
     ∷ []) 2)
 
 abbrev pub library_calls_text : List (List ℕ)
@@ -315,7 +319,7 @@ LibraryCalls = SpellsList kind.Main (items_of library_calls_text) [] (tall (
     ∷ lined.InitMutex 3 (scalar (codes "m"))
     ∷ lined.InitCond 3 (scalar (codes "c"))
     ∷ lined.Lock 4 (scalar (codes "m"))
-    ∷ lined.Wait 4 (scalar (codes "c")) (scalar (codes "m"))
+    ∷ lined.Wait 4 (scalar (codes "c")) (scalar (codes "m")) []
     ∷ lined.Unlock 4 (member (codes "m") (tree.Number 1))
     ∷ lined.Signal 5 (scalar (codes "c"))
     ∷ lined.Broadcast 5 (scalar (codes "c"))
@@ -372,6 +376,31 @@ abbrev pub Choices : Type 0
 Choices = SpellsList kind.Main (items_of choices_text) [] (tall (
     lined.If 1 (tree.Name (codes "a")) (lined.listed (lined.If 1 (tree.Name (codes "b")) (lined.listed (lined.Assign 1 (scalar (codes "x")) (tree.Number 1) ∷ [])) (lined.listed (lined.Assign 1 (scalar (codes "x")) (tree.Number 2) ∷ [])) ∷ [])) lined.Nil
     ∷ lined.If 2 (tree.Name (codes "a")) (lined.listed (lined.If 2 (tree.Name (codes "b")) lined.Nil lined.Nil ∷ [])) (lined.listed (lined.If 2 (tree.Name (codes "c")) lined.Nil (lined.listed (lined.Assign 2 (scalar (codes "x")) (tree.Number 3) ∷ lined.Assign 2 (scalar (codes "x")) (tree.Number 4) ∷ [])) ∷ []))
+    ∷ []) 4)
+
+abbrev pub trylocks_text : List (List ℕ)
+trylocks_text =
+    codes "if ( pthread_mutex_trylock ( & a ) ) x = 1 ; else x = 2 ;"
+    ∷ codes "if ( ! pthread_mutex_trylock ( & a [ i ] ) ) x = 1 ; else x = 2 ;"
+    ∷ codes "if ( pthread_mutex_trylock ( & a ) == 0 ) x = 1 ; else x = 2 ;"
+    ∷ codes "if ( pthread_mutex_trylock ( & a [ 0 ] ) != 0 ) x = 1 ; else x = 2 ;"
+    ∷ codes "if ( pthread_mutex_trylock ( & a ) ) x = 1 ;"
+    ∷ codes "if ( ! pthread_mutex_trylock ( & a [ i ] ) ) x = 1 ;"
+    ∷ codes "if ( pthread_mutex_trylock ( & a ) == 0 ) x = 1 ;"
+    ∷ codes "if ( pthread_mutex_trylock ( & a [ 0 ] ) != 0 ) x = 1 ;"
+    ∷ []
+
+-- A trylock in its four spellings, with an `else` and without: it gives 0 where it took the mutex.
+abbrev pub Trylocks : Type 0
+Trylocks = SpellsList kind.Main (items_of trylocks_text) [] (tall (
+    lined.TryLock 1 (scalar (codes "a")) (lined.listed (lined.Assign 1 (scalar (codes "x")) (tree.Number 2) ∷ [])) (lined.listed (lined.Assign 1 (scalar (codes "x")) (tree.Number 1) ∷ []))
+    ∷ lined.TryLock 2 (member (codes "a") (tree.Name (codes "i"))) (lined.listed (lined.Assign 2 (scalar (codes "x")) (tree.Number 1) ∷ [])) (lined.listed (lined.Assign 2 (scalar (codes "x")) (tree.Number 2) ∷ []))
+    ∷ lined.TryLock 3 (scalar (codes "a")) (lined.listed (lined.Assign 3 (scalar (codes "x")) (tree.Number 1) ∷ [])) (lined.listed (lined.Assign 3 (scalar (codes "x")) (tree.Number 2) ∷ []))
+    ∷ lined.TryLock 4 (member (codes "a") (tree.Number 0)) (lined.listed (lined.Assign 4 (scalar (codes "x")) (tree.Number 2) ∷ [])) (lined.listed (lined.Assign 4 (scalar (codes "x")) (tree.Number 1) ∷ []))
+    ∷ lined.TryLock 5 (scalar (codes "a")) lined.Nil (lined.listed (lined.Assign 5 (scalar (codes "x")) (tree.Number 1) ∷ []))
+    ∷ lined.TryLock 6 (member (codes "a") (tree.Name (codes "i"))) (lined.listed (lined.Assign 6 (scalar (codes "x")) (tree.Number 1) ∷ [])) lined.Nil
+    ∷ lined.TryLock 7 (scalar (codes "a")) (lined.listed (lined.Assign 7 (scalar (codes "x")) (tree.Number 1) ∷ [])) lined.Nil
+    ∷ lined.TryLock 8 (member (codes "a") (tree.Number 0)) lined.Nil (lined.listed (lined.Assign 8 (scalar (codes "x")) (tree.Number 1) ∷ []))
     ∷ []) 4)
 
 abbrev pub loops_text : List (List ℕ)

@@ -5,14 +5,14 @@ use Rattle.c_tree.specs.declared.program.Kind.{Kind}
 use Rattle.c_tree.specs.declared.program.Kind.TheVariants as kind
 use Rattle.c_tree.specs.declared.program.Slot.{Slot}
 use Rattle.c_tree.specs.Expressions as tree
-use Rattle.c_tree.specs.Expressions.{Expr}
+use Rattle.c_tree.specs.Expressions.{Expr, Place}
 use Rattle.c_tree.specs.Lined as lined
 use Rattle.c_tree.specs.Lined.{Stmt, listed}
 use Rattle.c_grammar.specs.declared.words.FixedWord.TheVariants as w
 use Rattle.c_grammar.specs.Items.{What, Item, at, sign, fixed, name_of}
-use Rattle.c_grammar.specs.Levels.{Tall, tall, nothing, alone, followed}
+use Rattle.c_grammar.specs.Levels.{Tall, tall, over, nothing, alone, followed}
 use Rattle.c_grammar.specs.Commas.{Commas}
-use Rattle.c_grammar.specs.Expressions.{SpellsWhole}
+use Rattle.c_grammar.specs.Expressions.{SpellsWhole, SpellsAddress}
 use Rattle.c_grammar.specs.Simple.{SpellsStep, SpellsSimple}
 
 -- ---- the parts of a `for`
@@ -35,10 +35,39 @@ pub data SpellsLast : List Item → List Item → Tall (List Stmt) → Type 0 wh
   none : {ts : List Item} → SpellsLast ts ts nothing
   step : {ts rest : List Item} {x : Tall (List Stmt)} → SpellsStep ts rest x → SpellsLast ts rest x
 
+-- ---- what an `if` tests
+
+-- An expression, or a trylock, of which the first arm is that of a mutex that was taken, or of one that was busy.
+pub data Choice : Type 0 where
+  Value : (test : Expr) → Choice
+  Taken : (place : Place) → Choice
+  Busy : (place : Place) → Choice
+
+-- try = pthread_mutex_trylock ( & place )
+pub data SpellsTry : List Item → List Item → Tall Place → Type 0 where
+  try : {l m n : ℕ} {ts rest : List Item} {p : Tall Place}
+      → SpellsAddress ts (sign n s.RightParenthesis ∷ rest) p → SpellsTry (fixed l w.TryLock ∷ sign m s.LeftParenthesis ∷ ts) rest p
+
+-- test = e | try | ! try | try == 0 | try != 0: a trylock gives 0 where it took the mutex (POSIX). It has the level of an expression there. `!` takes one more, as in an expression; `==` and `!=` add none.
+pub data SpellsChoice : List Item → List Item → Tall Choice → Type 0 where
+  value : {ts rest : List Item} {e : Tall Expr} → SpellsWhole ts rest e → SpellsChoice ts rest (tall (Value e.tree) e.levels)
+  tried : {ts rest : List Item} {p : Tall Place} → SpellsTry ts rest p → SpellsChoice ts rest (over (Busy p.tree) p.levels)
+  not_tried : {l : ℕ} {ts rest : List Item} {p : Tall Place} → SpellsTry ts rest p → SpellsChoice (sign l s.Not ∷ ts) rest (over (Taken p.tree) (suc p.levels))
+  zero : {l m : ℕ} {ts rest : List Item} {p : Tall Place}
+      → SpellsTry ts (sign l s.Equal ∷ at m (What.Number 0) ∷ rest) p → SpellsChoice ts rest (over (Taken p.tree) p.levels)
+  other : {l m : ℕ} {ts rest : List Item} {p : Tall Place}
+      → SpellsTry ts (sign l s.NotEqual ∷ at m (What.Number 0) ∷ rest) p → SpellsChoice ts rest (over (Busy p.tree) p.levels)
+
 -- ---- statements
 
-abbrev pub chosen : ℕ → Tall Expr → Tall (List Stmt) → Tall (List Stmt) → Tall (List Stmt)
-chosen line test one two = alone (lined.If line test.tree (listed one.tree) (listed two.tree)) (max test.levels (max one.levels two.levels))
+-- The arms in the order of the text.
+abbrev pub choice : ℕ → Choice → List Stmt → List Stmt → Stmt
+choice line (Value e) one two = lined.If line e (listed one) (listed two)
+choice line (Taken p) one two = lined.TryLock line p (listed one) (listed two)
+choice line (Busy p) one two = lined.TryLock line p (listed two) (listed one)
+
+abbrev pub chosen : ℕ → Tall Choice → Tall (List Stmt) → Tall (List Stmt) → Tall (List Stmt)
+chosen line test one two = alone (choice line test.tree one.tree two.tree) (max test.levels (max one.levels two.levels))
 
 abbrev pub repeated : ℕ → Tall Expr → Tall (List Stmt) → Tall (List Stmt)
 repeated line test body = alone (lined.While line test.tree (listed body.tree)) (max test.levels body.levels)
@@ -52,18 +81,18 @@ counted line first test last body =
 -- In a function of this kind. The flag says that the text isn't, and doesn't end in, an `if` without `else`:
 -- only then may an `else` follow where it is an arm.
 mutual
-  -- stmt = simple ; | ; | if ( e ) arm [else arm] | while ( e ) arm | for ( [first] ; [e] ; [step] ) arm
+  -- stmt = simple ; | ; | if ( test ) arm [else arm] | while ( e ) arm | for ( [first] ; [e] ; [step] ) arm
   pub data SpellsStatement : Kind → Bool → List Item → List Item → Tall (List Stmt) → Type 0 where
     simple : {k : Kind} {l : ℕ} {ts rest : List Item} {x : Tall (List Stmt)}
         → SpellsSimple k ts (sign l s.Semicolon ∷ rest) x → SpellsStatement k true ts rest x
     -- a `;` alone is no statement of the tree
     empty : {k : Kind} {l : ℕ} {rest : List Item} → SpellsStatement k true (sign l s.Semicolon ∷ rest) rest nothing
-    if_only : {k : Kind} {b : Bool} {l m n : ℕ} {ts mid rest : List Item} {e : Tall Expr} {one : Tall (List Stmt)}
-        → SpellsWhole ts (sign n s.RightParenthesis ∷ mid) e → SpellsArm k b mid rest one
-        → SpellsStatement k false (fixed l w.If ∷ sign m s.LeftParenthesis ∷ ts) rest (chosen l e one nothing)
-    if_else : {k : Kind} {b : Bool} {l m n i : ℕ} {ts mid next rest : List Item} {e : Tall Expr} {one two : Tall (List Stmt)}
-        → SpellsWhole ts (sign n s.RightParenthesis ∷ mid) e → SpellsArm k true mid (fixed i w.Else ∷ next) one → SpellsArm k b next rest two
-        → SpellsStatement k b (fixed l w.If ∷ sign m s.LeftParenthesis ∷ ts) rest (chosen l e one two)
+    if_only : {k : Kind} {b : Bool} {l m n : ℕ} {ts mid rest : List Item} {c : Tall Choice} {one : Tall (List Stmt)}
+        → SpellsChoice ts (sign n s.RightParenthesis ∷ mid) c → SpellsArm k b mid rest one
+        → SpellsStatement k false (fixed l w.If ∷ sign m s.LeftParenthesis ∷ ts) rest (chosen l c one nothing)
+    if_else : {k : Kind} {b : Bool} {l m n i : ℕ} {ts mid next rest : List Item} {c : Tall Choice} {one two : Tall (List Stmt)}
+        → SpellsChoice ts (sign n s.RightParenthesis ∷ mid) c → SpellsArm k true mid (fixed i w.Else ∷ next) one → SpellsArm k b next rest two
+        → SpellsStatement k b (fixed l w.If ∷ sign m s.LeftParenthesis ∷ ts) rest (chosen l c one two)
     while : {k : Kind} {b : Bool} {l m n : ℕ} {ts mid rest : List Item} {e : Tall Expr} {body : Tall (List Stmt)}
         → SpellsWhole ts (sign n s.RightParenthesis ∷ mid) e → SpellsArm k b mid rest body
         → SpellsStatement k b (fixed l w.While ∷ sign m s.LeftParenthesis ∷ ts) rest (repeated l e body)

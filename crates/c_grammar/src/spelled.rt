@@ -1,12 +1,12 @@
 // Samples that are spelled, each with the whole tree. The texts are in `specs/Spelled.antt`.
-ghost use Rattle.c_grammar.specs.Spelled.{Declarations, MonitorCalls, Functions, Threads, Philosophers, DefinedKeyword, Assignments, Calls, LibraryCalls, Expressions, Casts, Choices, Loops, Lines};
+ghost use Rattle.c_grammar.specs.Spelled.{Declarations, MonitorCalls, Functions, Threads, Philosophers, DefinedKeyword, Assignments, Calls, LibraryCalls, Expressions, Casts, Choices, Trylocks, Loops, Lines};
 
 /// Scalars, arrays, mutexes, conditions and threads, with and without values, `static`, and a name that is defined as a number.
 pub fn declarations_are_spelled()
     ensures { Declarations }
 {}
 
-/// Capacities with their declarations, and calls that take and give.
+/// Capacities with their declarations, calls that take and give, and a wait that takes afterwards.
 pub fn monitor_calls_are_spelled()
     ensures { MonitorCalls }
 {}
@@ -36,7 +36,7 @@ pub fn assignments_are_spelled()
     ensures { Assignments }
 {}
 
-/// Several declarations at once, a declaration by a call, which is two statements, and calls. `main` and `k` may be called.
+/// Several declarations at once, a declaration by a call, which is two statements, and calls. `main`, `k`, `c` and `m` may be called.
 pub fn calls_are_spelled()
     ensures { Calls }
 {}
@@ -59,6 +59,11 @@ pub fn casts_are_spelled()
 /// An `else` belongs to the nearest `if` before it that has none.
 pub fn choices_are_spelled()
     ensures { Choices }
+{}
+
+/// A trylock in its four spellings, with an `else` and without: it gives 0 where it took the mutex.
+pub fn trylocks_are_spelled()
+    ensures { Trylocks }
 {}
 
 /// Loops with and without their parts. A missing test is the number 1.

@@ -1,6 +1,6 @@
 // Samples that are not spelled as what they would have to be. The texts are in
 // `specs/NotSpelled.antt`.
-ghost use Rattle.c_grammar.specs.NotSpelled.{OtherStatements, CallsInside, Unfinished, OtherReturns, OtherCalls, GroupsLeft, DefinedTwice, CastOfArgument, KeptNames};
+ghost use Rattle.c_grammar.specs.NotSpelled.{OtherStatements, CallsInside, Unfinished, OtherReturns, OtherCalls, OtherTrylocks, GroupsLeft, DefinedTwice, CastOfArgument, KeptNames};
 
 /// Statements of C that are none here, as `break;`, and parts that are none by themselves, as an
 /// `else` without its `if`.
@@ -26,6 +26,11 @@ pub fn no_other_returns()
 /// The words that the grammar spells out are called as it says, and not otherwise.
 pub fn no_other_calls()
     ensures { OtherCalls }
+{}
+
+/// A trylock stands in the test of an `if` alone, and is compared with 0 alone.
+pub fn no_other_trylocks()
+    ensures { OtherTrylocks }
 {}
 
 /// `a - b - c` isn't `a - (b - c)`.

@@ -24,8 +24,12 @@ pub enum FixedWord {
     Return,
     /// `main`
     Main,
-    /// `k`, the parameter in the declarations of the monitor calls
+    /// `k`, the parameter in the declarations of `gd_take` and `gd_give`
     Parameter,
+    /// `c`, the condition in the declaration of `gd_cond_wait`
+    ConditionParameter,
+    /// `m`, the mutex in the declaration of `gd_cond_wait`
+    MutexParameter,
     /// `NULL`
     Null,
     /// `intptr_t`
@@ -54,6 +58,8 @@ pub enum FixedWord {
     InitCondition,
     /// `pthread_mutex_lock`
     Lock,
+    /// `pthread_mutex_trylock`
+    TryLock,
     /// `pthread_mutex_unlock`
     Unlock,
     /// `pthread_cond_wait`
@@ -68,4 +74,6 @@ pub enum FixedWord {
     Take,
     /// `gd_give`
     Give,
+    /// `gd_cond_wait`
+    ControlledWait,
 }

@@ -12,13 +12,13 @@ use Rattle.c_lexer.specs.declared.token.Sign.TheVariants as s
 use Rattle.c_lexer.specs.Classes.{is_letter, is_digit, is_word, is_blank}
 use Rattle.c_lexer.specs.Pieces.{Kind, Piece}
 use Rattle.c_lexer.specs.Words.{name_of, number_of, is_plain, largest, decimal as value_of}
-use Rattle.c_lexer.specs.Signs.{single, double, with_equals, twice, one_byte}
+use Rattle.c_lexer.specs.Signs.{single, double, triple, with_equals, twice, one_byte}
 use Rattle.c_lexer.specs.Readings.{after_quote, after_mark, is_pair, is_single, quoted as quoted_text}
 use Rattle.c_lexer.specs.Directives.{headers, after_include, directive}
 use Rattle.c_lexer.specs.Lexeme.{Longest}
 use Rattle.c_lexer.proofs.Pieces.{Stops as Ends, reading_longest}
 use Rattle.c_lexer.proofs.WordPieces.{name_longest, number_longest}
-use Rattle.c_lexer.proofs.SignPieces.{Apart, single_longest, double_longest, by_signs, slash_signs}
+use Rattle.c_lexer.proofs.SignPieces.{Apart, single_longest, double_longest, triple_longest, by_signs, slash_signs}
 use Rattle.c_lexer.proofs.ReadingPieces.{mark_read}
 use Rattle.c_lexer.proofs.DirectivePieces.{hash_read}
 use Rattle.c_layout.specs.Layout.{IsName, IsQuotable, spelling, in_quotes, include_line}
@@ -160,18 +160,23 @@ apart_by b c false false e f g h = rw (e, f)
 flip_eq : (b c : ℕ) → (c == b) ≡ false → (b == c) ≡ true → ⊥
 flip_eq b c h g = grind (arith, nat_tests)
 
+-- The byte that follows makes no sign of two bytes.
+abbrev NoDouble : ℕ → List ℕ → Type 0
+NoDouble b [] = Unit {0}
+NoDouble b (c ∷ rest) = double b c ≡ None
+
 -- Signs that no byte goes on.
-alone_apart : (b : ℕ) (rest : List ℕ) → with_equals b ≡ None → twice b ≡ None → Apart b rest
+alone_apart : (b : ℕ) (rest : List ℕ) → with_equals b ≡ None → twice b ≡ None → NoDouble b rest
 alone_apart b [] e t = tt
 alone_apart b (c ∷ rest) e t = apart_by b c (c == 61) (b == c) refl refl (λ x. e) (λ x. t)
 
 -- Signs that only `=` goes on.
-equals_apart : (b : ℕ) (rest : List ℕ) → twice b ≡ None → Stops (λ c. c == 61) rest → Apart b rest
+equals_apart : (b : ℕ) (rest : List ℕ) → twice b ≡ None → Stops (λ c. c == 61) rest → NoDouble b rest
 equals_apart b [] t h = tt
 equals_apart b (c ∷ rest) t h = apart_by b c (c == 61) (b == c) refl refl (λ x. absurd (cc)) (λ x. t)
 
 -- Signs that only the same byte goes on.
-twice_apart : (b : ℕ) (rest : List ℕ) → with_equals b ≡ None → Stops (λ c. c == b) rest → Apart b rest
+twice_apart : (b : ℕ) (rest : List ℕ) → with_equals b ≡ None → Stops (λ c. c == b) rest → NoDouble b rest
 twice_apart b [] e h = tt
 twice_apart b (c ∷ rest) e h = apart_by b c (c == 61) (b == c) refl refl (λ x. e) (λ x. absurd (flip_eq b c h x))
 
@@ -181,18 +186,32 @@ either true y h = absurd (cc)
 either false true h = absurd (cc)
 either false false h = (refl, refl)
 
-both_apart : (b : ℕ) (rest : List ℕ) → Stops (λ c. (c == 61) || (c == b)) rest → Apart b rest
+both_apart : (b : ℕ) (rest : List ℕ) → Stops (λ c. (c == 61) || (c == b)) rest → NoDouble b rest
 both_apart b [] h = tt
 both_apart b (c ∷ rest) h =
     let p = either (c == 61) (c == b) h in
     apart_by b c (c == 61) (b == c) refl refl (λ x. let f = p.0 in absurd (cc)) (λ x. absurd (flip_eq b c p.1 x))
 
+-- No sign of three bytes begins with one of one byte.
+no_triple : (b c d : ℕ) (sign : Sign) → single b ≡ Some sign → triple b c d ≡ None
+unfolding single triple
+no_triple b c d sign h = by (b == 46) refl
+  where
+    by : (x : Bool) → (b == 46) ≡ x → cond x (cond (c == 46) (cond (d == 46) (Some s.Ellipsis) None) None) None ≡ None
+    by true e = let dot : single 46 ≡ Some sign = subst (λ x. single x ≡ Some sign) (same_byte b 46 e) h in absurd (cc)
+    by false e = refl
+
+apart : (b : ℕ) (rest : List ℕ) (sign : Sign) → single b ≡ Some sign → NoDouble b rest → Apart b rest
+apart b [] sign is h = tt
+apart b (c ∷ []) sign is h = (h, refl)
+apart b (c ∷ d ∷ rest) sign is h = (h, no_triple b c d sign is)
+
 one_fits : (b : ℕ) (rest : List ℕ) (sign : Sign) → single b ≡ Some sign → is_letter b ≡ false → is_digit b ≡ false → is_blank b ≡ false
-    → b ≢ 34 → b ≢ 35 → b ≢ 47 → Apart b rest → (first : Bool) → Longest first (b ∷ []) rest (Piece.token (Kind.sign sign))
-one_fits b rest sign is letter digit blank mark hash slash apart first =
+    → b ≢ 34 → b ≢ 35 → b ≢ 47 → NoDouble b rest → (first : Bool) → Longest first (b ∷ []) rest (Piece.token (Kind.sign sign))
+one_fits b rest sign is letter digit blank mark hash slash h first =
     let same : one_byte (single b) ≡ Piece.token (Kind.sign sign) = rw is in
     subst (λ x. Longest first (b ∷ []) rest x) same
-    (single_longest first b rest (by_signs (b ∷ rest) (omega arith) letter digit blank mark hash slash) apart)
+    (single_longest first b rest (by_signs (b ∷ rest) (omega arith) letter digit blank mark hash slash) (apart b rest sign is h))
 
 two_fit : (b c : ℕ) (rest : List ℕ) (sign : Sign) → double b c ≡ Some sign → is_letter b ≡ false → is_digit b ≡ false → is_blank b ≡ false
     → b ≢ 34 → b ≢ 35 → b ≢ 47 → (first : Bool) → Longest first (b ∷ c ∷ []) rest (Piece.token (Kind.sign sign))
@@ -206,14 +225,14 @@ slash_fits (c ∷ rest) h first =
     let p = either (c == 61) ((c == 42) || (c == 47)) (regroup (c == 61) (c == 42) (c == 47) h) in
     let q = either (c == 42) (c == 47) p.1 in
     single_longest first 47 (c ∷ rest) (slash_signs (47 ∷ c ∷ rest) (omega arith) refl (λ x. other_byte c 42 q.0) (λ x. other_byte c 47 q.1))
-    (apart_by 47 c (c == 61) (47 == c) refl refl (λ x. let f = p.0 in absurd (cc)) (λ x. absurd (flip_eq 47 c q.1 x)))
+    (apart 47 (c ∷ rest) s.Slash refl (apart_by 47 c (c == 61) (47 == c) refl refl (λ x. let f = p.0 in absurd (cc)) (λ x. absurd (flip_eq 47 c q.1 x))))
   where
     regroup : (x y z : Bool) → ((x || y) || z) ≡ false → (x || (y || z)) ≡ false
     regroup true y z h = h
     regroup false y z h = h
 
 pub sign_fits : (sign : Sign) (rest : List ℕ) → Stops (goes_on sign) rest → (first : Bool) → Longest first (spelling sign) rest (Piece.token (Kind.sign sign))
-unfolding single double
+unfolding single double triple
 sign_fits s.LeftParenthesis rest h = one_fits 40 rest s.LeftParenthesis refl refl refl refl (omega arith) (omega arith) (omega arith) (alone_apart 40 rest refl refl)
 sign_fits s.RightParenthesis rest h = one_fits 41 rest s.RightParenthesis refl refl refl refl (omega arith) (omega arith) (omega arith) (alone_apart 41 rest refl refl)
 sign_fits s.LeftBrace rest h = one_fits 123 rest s.LeftBrace refl refl refl refl (omega arith) (omega arith) (omega arith) (alone_apart 123 rest refl refl)
@@ -245,6 +264,8 @@ sign_fits s.DivideAssign rest h = λ first. double_longest first 47 61 rest s.Di
 sign_fits s.RemainderAssign rest h = two_fit 37 61 rest s.RemainderAssign refl refl refl refl (omega arith) (omega arith) (omega arith)
 sign_fits s.Increment rest h = two_fit 43 43 rest s.Increment refl refl refl refl (omega arith) (omega arith) (omega arith)
 sign_fits s.Decrement rest h = two_fit 45 45 rest s.Decrement refl refl refl refl (omega arith) (omega arith) (omega arith)
+sign_fits s.Ellipsis rest h = λ first.
+    triple_longest first 46 46 46 rest s.Ellipsis (by_signs (46 ∷ 46 ∷ 46 ∷ rest) (omega arith) refl refl refl (omega arith) (omega arith) (omega arith)) refl
 
 -- ---- includes
 

@@ -79,6 +79,7 @@ spelling s.DivideAssign = codes "/="
 spelling s.RemainderAssign = codes "%="
 spelling s.Increment = codes "++"
 spelling s.Decrement = codes "--"
+spelling s.Ellipsis = codes "..."
 
 abbrev pub sign : Sign → Item
 sign x = token (Kind.sign x) (spelling x)

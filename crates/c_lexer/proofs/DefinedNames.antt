@@ -13,7 +13,7 @@ use Rattle.c_lexer.specs.declared.token.Sign.{Sign}
 use Rattle.c_lexer.specs.Classes.{is_letter, is_digit, is_blank, is_line_blank, in_line, is_word, is_space}
 use Rattle.c_lexer.specs.Pieces.{Kind, Piece, Found, up_to, alone}
 use Rattle.c_lexer.specs.Words.{name_of, number_of, is_plain, decimal, largest}
-use Rattle.c_lexer.specs.Signs.{single, double, sign_of, one_byte, two_bytes}
+use Rattle.c_lexer.specs.Signs.{single, double, triple, sign_of, one_byte, several_bytes}
 use Rattle.c_lexer.specs.Readings.{after_close, after_line, closed, block_comment, line_comment, after_quote, quoted, after_mark}
 use Rattle.c_lexer.specs.Directives.{after_bytes, after_gap, after_spaces, word, after_word, is_name, is_number, Definition, defined_number, defined_name, definition, defined, definition_line, include_line, after_include, tail, tail_slash, tail_comment, over_lines, directive, name_place}
 use Rattle.c_lexer.specs.Lexeme.{lexeme, slash_of}
@@ -62,10 +62,15 @@ not_sign b [] = by (single b)
     by (Some sign) = refl
 not_sign b (c ∷ []) = by (double b c)
   where
-    by : (o : Option Sign) → is_definition (two_bytes o) ≡ false
+    by : (o : Option Sign) → is_definition (several_bytes o) ≡ false
     by None = refl
     by (Some sign) = refl
-not_sign b (c ∷ d ∷ w) = refl
+not_sign b (c ∷ d ∷ []) = by (triple b c d)
+  where
+    by : (o : Option Sign) → is_definition (several_bytes o) ≡ false
+    by None = refl
+    by (Some sign) = refl
+not_sign b (c ∷ d ∷ e ∷ w) = refl
 
 not_text : (rest text : List ℕ) → is_definition (up_to rest (after_mark text)) ≡ false
 not_text rest text = not_up_to rest (after_mark text) (by (after_quote text))

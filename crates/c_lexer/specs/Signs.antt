@@ -34,18 +34,30 @@ twice b = if b == 38 then Some s.And else (if b == 124 then Some s.Or else (if b
 unfoldable pub double : ℕ → ℕ → Option Sign
 double b c = if c == 61 then with_equals b else (if b == c then twice b else None)
 
+-- The one sign of three bytes: `...`
+unfoldable pub triple : ℕ → ℕ → ℕ → Option Sign
+triple b c d = if b == 46 then (if c == 46 then (if d == 46 then Some s.Ellipsis else None) else None) else None
+
+-- The sign of three bytes that a text begins with.
+abbrev pub three_bytes : List ℕ → Option Sign
+three_bytes [] = None
+three_bytes (b ∷ []) = None
+three_bytes (b ∷ c ∷ []) = None
+three_bytes (b ∷ c ∷ d ∷ w) = triple b c d
+
 -- What one byte is by itself: a sign, or it is refused.
 abbrev pub one_byte : Option Sign → Piece
 one_byte None = Piece.refused f.BadByte
 one_byte (Some sign) = Piece.token (Kind.sign sign)
 
--- What two bytes are: a sign, or no piece.
-abbrev pub two_bytes : Option Sign → Option Piece
-two_bytes None = None
-two_bytes (Some sign) = Some (Piece.token (Kind.sign sign))
+-- What two or three bytes are: a sign, or no piece.
+abbrev pub several_bytes : Option Sign → Option Piece
+several_bytes None = None
+several_bytes (Some sign) = Some (Piece.token (Kind.sign sign))
 
 -- What a byte and those after it are, where nothing but a sign begins with it.
 abbrev pub sign_of : ℕ → List ℕ → Option Piece
 sign_of b [] = Some (one_byte (single b))
-sign_of b (c ∷ []) = two_bytes (double b c)
-sign_of b (c ∷ d ∷ w) = None
+sign_of b (c ∷ []) = several_bytes (double b c)
+sign_of b (c ∷ d ∷ []) = several_bytes (triple b c d)
+sign_of b (c ∷ d ∷ e ∷ w) = None

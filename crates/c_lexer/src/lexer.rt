@@ -117,6 +117,3 @@ pub fn token_by_token()
 pub fn lines_add_up()
     ensures { LinesAddUp }
 {}
-
-#[cfg(test)]
-mod tests;

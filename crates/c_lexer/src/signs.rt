@@ -81,6 +81,18 @@ fn double(b: u8, c: u8) -> Option<Sign>
     }
 }
 
+/// The sign of three bytes that a text begins with.
+#[tactic(auto, unfolding(crate::specs::Signs::triple))]
+fn three_bytes(text: &[u8]) -> Option<Sign>
+    ensures { result ≡ spec.three_bytes text.now }
+{
+    if text.len() > 2 && text[0] == b'.' && text[1] == b'.' && text[2] == b'.' {
+        Some(Sign::Ellipsis)
+    } else {
+        None
+    }
+}
+
 /// A sign of one byte, or a byte that is refused.
 fn one_byte(b: u8) -> Lexeme
     ensures { (place : ℕ) (all : List ℕ) → result ≡ shown place all (spec.one_byte (spec.single b)) }
@@ -101,6 +113,12 @@ pub fn sign(text: &[u8]) -> Cut
         return Cut {
             lexeme: one_byte(text[0]),
             len: 1,
+        };
+    }
+    if let Some(sign) = three_bytes(text) {
+        return Cut {
+            lexeme: Lexeme::Token(Token::Sign(sign)),
+            len: 3,
         };
     }
     match double(text[0], text[1]) {

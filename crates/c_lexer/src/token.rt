@@ -68,6 +68,8 @@ pub enum Sign {
     Increment,
     /// `--`
     Decrement,
+    /// `...`
+    Ellipsis,
 }
 
 /// A place in a text: the bytes from `start` up to and without `end`, counted from 0.

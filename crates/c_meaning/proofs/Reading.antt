@@ -1,14 +1,12 @@
 -- What tests, lists and look-ups say.
-use Rattle.std.proofs.Common.{◌≡◌, ◌≢◌, ◌<◌, ℕ, zero, suc, ◌+◌, Bool, true, false, List, [], ◌∷◌, Option, Some, None, refl, sym, ap, ◌∙◌, subst, ◌⊎◌, inl, inr, ⊎_elim, arith}
+use Rattle.std.proofs.Common.{◌≡◌, ◌≢◌, ◌<◌, ℕ, zero, suc, ◌+◌, Bool, true, false, List, [], ◌∷◌, Option, Some, None, refl, ap, subst, ◌⊎◌, inl, inr, ⊎_elim, arith}
 use Rattle.std.specs.Prelude.{ℤ, pos, negsuc, ◌&&◌, ◌||◌, if◌then◌else◌, nat_lt, slice_get, slice_set, bytes_eq, find, sum_by, unwrap_or, option_map, ⊤}
-use Rattle.std.specs.List.{list_any}
 use Rattle.std.specs.Option.{is_none}
 use Rattle.std.proofs.lemmas.Bool.{ltb-true}
 use Rattle.std.proofs.lemmas.List.Sums.{sum_by-cons}
 use Rattle.std.proofs.lemmas.Slice.Eq.{bytes_eq-Decides}
 use Rattle.c_tree.specs.Bare.{Object}
 use Rattle.c_tree.specs.Numbering.{index_within, member, object_count, numbered}
-use Rattle.c_tree.specs.FirstForm.{mentions}
 
 -- both sides of `&&`
 pub both_true : (a b : Bool) → (a && b) ≡ true → (a ≡ true) × (b ≡ true)
@@ -40,17 +38,6 @@ same_bytes xs ys e = (bytes_eq-Decides xs ys).0 e
 
 pub bytes_eq_itself : (xs : List ℕ) → bytes_eq xs xs ≡ true
 bytes_eq_itself xs = (bytes_eq-Decides xs xs).1 refl
-
--- what a test finds at a name, it finds in a list that mentions the name
-pub any_mentioned : (test : List ℕ → Bool) (names : List (List ℕ)) (name : List ℕ) → mentions names name ≡ true → test name ≡ true → list_any test names ≡ true
-any_mentioned test [] name at pass = absurd (cc at)
-any_mentioned test (n ∷ names) name at pass = by (bytes_eq name n) refl (λ found. any_mentioned test names name found pass) at
-  where
-    by : (b : Bool) → bytes_eq name n ≡ b → (list_any (bytes_eq name) names ≡ true → list_any test names ≡ true) → (b || list_any (bytes_eq name) names) ≡ true
-        → (test n || list_any test names) ≡ true
-    by true e later found =
-        let here : test n ≡ true = ap test (sym (same_bytes name n e)) ∙ pass in ap (λ b. b || list_any test names) here
-    by false e later found = or_right (test n) (list_any test names) (later found)
 
 -- what is read after a write is what was written, or what was there
 pub read_after : {X : Type 0} (xs : List X) (i : ℕ) (v : X) (j : ℕ) (w : X) → slice_get (slice_set xs i v) j ≡ Some w → ((j ≡ i) × (w ≡ v)) ⊎ ((j ≢ i) × (slice_get xs j ≡ Some w))

@@ -4,16 +4,11 @@ use Rattle.std.specs.declared.option.Option.{Option}
 use Rattle.c_tree.specs.Expressions.{Expr}
 use Rattle.c_tree.specs.Values.{is_true}
 use Rattle.c_tree.specs.Bare as bare
-use Rattle.c_tree.specs.Bare.{Stmt, Stmts, Nil, Cons, Program}
+use Rattle.c_tree.specs.Bare.{Stmt, Stmts, Nil, Cons, Program, before}
 use Rattle.c_meaning.specs.State.{Locals, Frame, State, frame}
 use Rattle.c_meaning.specs.Outcome.{Outcome, Undefined, moved}
 use Rattle.c_meaning.specs.Places.{evaluated, evaluated_if_any, target_at}
 use Rattle.c_meaning.specs.Setting.{declared_local, assigned}
-
--- a list of statements, and others behind it
-abbrev pub before : Stmts → Stmts → Stmts
-before Nil rest = rest
-before (Cons s arm) rest = Cons s (before arm rest)
 
 -- If: the arm that the test picks comes before the rest
 abbrev pub branched : State → ℕ → Locals → Stmts → List Frame → Stmts → Stmts → Option ℤ → Outcome

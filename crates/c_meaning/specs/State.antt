@@ -24,8 +24,8 @@ pub data Status : Type 0 where
   Running : (frames : List Frame) → Status
   -- waits for a signal on a condition, and has released a mutex meanwhile
   Waiting : (condition mutex : ℕ) (frames : List Frame) → Status
-  -- was woken, and waits for its mutex
-  Reacquiring : (mutex : ℕ) (frames : List Frame) → Status
+  -- was woken, and takes these tokens, one of each monitor in this order, and then its mutex
+  Reacquiring : (mutex : ℕ) (takes : List ℕ) (frames : List Frame) → Status
   Ended : Status
 
 pub record State : Type 0 where

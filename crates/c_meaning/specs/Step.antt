@@ -3,7 +3,7 @@ use Rattle.std.specs.Prelude.{ℕ, if◌then◌else◌, List, [], ◌∷◌, Som
 use Rattle.std.specs.declared.option.Option.{Option}
 use Rattle.c_tree.specs.Values.{constant}
 use Rattle.c_tree.specs.Bare as bare
-use Rattle.c_tree.specs.Bare.{Stmt, Stmts, Nil, Cons, Program}
+use Rattle.c_tree.specs.Bare.{Stmt, Stmts, Nil, Cons, Program, before}
 use Rattle.c_tree.specs.Numbering.{function_named, thread_in}
 use Rattle.c_meaning.specs.declared.EventKind.{EventKind}
 use Rattle.c_meaning.specs.declared.EventKind.TheVariants.{Go, Choose, Wake}
@@ -16,7 +16,7 @@ use Rattle.c_meaning.specs.Printing.{printed}
 use Rattle.c_meaning.specs.Branching.{branched, looped, loop_of, for_begun}
 use Rattle.c_meaning.specs.Calls.{called, frame_ended, returned}
 use Rattle.c_meaning.specs.Threads.{first_frame, created, joined}
-use Rattle.c_meaning.specs.Locks.{initialised, locked, unlocked, taken, given}
+use Rattle.c_meaning.specs.Locks.{initialised, locked, tried, unlocked, taken, given}
 use Rattle.c_meaning.specs.Waits.{waited, signalled, signalled_to, broadcast, woken, retaken}
 
 -- A running thread does its first statement. It is in the newest of its frames, whose locals are given, and has the statements `rest` to do behind that one; `more`
@@ -38,12 +38,14 @@ acted p s t locals rest more (bare.Join slot) = joined s t (frame locals rest �
 acted p s t locals rest more (bare.InitMutex place) = initialised s t (frame locals rest ∷ more) (mutex_at p s locals place)
 acted p s t locals rest more (bare.InitCond place) = initialised s t (frame locals rest ∷ more) (condition_at p s locals place)
 acted p s t locals rest more (bare.Lock place) = locked s t (frame locals rest ∷ more) (mutex_at p s locals place)
+acted p s t locals rest more (bare.TryLock place taken_arm busy_arm) =
+    tried s t (frame locals (before taken_arm rest) ∷ more) (frame locals (before busy_arm rest) ∷ more) (mutex_at p s locals place)
 acted p s t locals rest more (bare.Unlock place) = unlocked s t (frame locals rest ∷ more) (mutex_at p s locals place)
-acted p s t locals rest more (bare.Wait cond mutex) =
-    waited s t (frame locals (Cons (bare.Wait cond mutex) rest) ∷ more) (condition_at p s locals cond) (mutex_at p s locals mutex)
+acted p s t locals rest more (bare.Wait cond mutex takes) =
+    waited s t (frame locals (Cons (bare.Wait cond mutex takes) rest) ∷ more) (condition_at p s locals cond) (mutex_at p s locals mutex)
 acted p s t locals rest more (bare.Signal cond) = signalled s t (frame locals rest ∷ more) (condition_at p s locals cond)
 acted p s t locals rest more (bare.Broadcast cond) = broadcast s t (frame locals rest ∷ more) (condition_at p s locals cond)
-acted p s t locals rest more (bare.Take monitor) = taken s t (frame locals rest ∷ more) monitor (slice_get p.monitors monitor) (slice_get s.tokens monitor)
+acted p s t locals rest more (bare.Take monitor) = taken s t (Running (frame locals rest ∷ more)) monitor (slice_get p.monitors monitor) (slice_get s.tokens monitor)
 acted p s t locals rest more (bare.Give monitor) = given s t (frame locals rest ∷ more) monitor (slice_get s.tokens monitor)
 
 -- where nothing is left to do, the frame ends without a result
@@ -65,10 +67,16 @@ abbrev pub chose : Program → State → ℕ → ℕ → List Frame → Outcome
 chose p s t u [] = NotEnabled
 chose p s t u (f ∷ more) = chose_on p s t f.locals more u f.todo
 
--- Go: a running thread does its first statement, and a woken one acquires its mutex again
+-- a woken thread takes the first of the tokens that it still takes, or else its mutex
+abbrev pub acquired_again : Program → State → ℕ → ℕ → List Frame → List ℕ → Outcome
+acquired_again p s t mutex frames [] = retaken s t mutex frames (slice_get s.owners mutex)
+acquired_again p s t mutex frames (monitor ∷ takes) =
+    taken s t (Reacquiring mutex takes frames) monitor (slice_get p.monitors monitor) (slice_get s.tokens monitor)
+
+-- Go: a running thread does its first statement, and a woken one acquires again what it needs to go on
 abbrev pub gone : Program → State → ℕ → Option Status → Outcome
 gone p s t (Some (Running frames)) = went p s t frames
-gone p s t (Some (Reacquiring mutex frames)) = retaken s t mutex frames (slice_get s.owners mutex)
+gone p s t (Some (Reacquiring mutex takes frames)) = acquired_again p s t mutex frames takes
 gone p s t (Some NotBegun) = NotEnabled
 gone p s t (Some (Waiting condition mutex frames)) = NotEnabled
 gone p s t (Some Ended) = NotEnabled
@@ -79,7 +87,7 @@ abbrev pub chosen : Program → State → ℕ → ℕ → Option Status → Outc
 chosen p s t u (Some (Running frames)) = chose p s t u frames
 chosen p s t u (Some NotBegun) = NotEnabled
 chosen p s t u (Some (Waiting condition mutex frames)) = NotEnabled
-chosen p s t u (Some (Reacquiring mutex frames)) = NotEnabled
+chosen p s t u (Some (Reacquiring mutex takes frames)) = NotEnabled
 chosen p s t u (Some Ended) = NotEnabled
 chosen p s t u None = NotEnabled
 
@@ -88,7 +96,7 @@ abbrev pub awoken : State → ℕ → Option Status → Outcome
 awoken s t (Some (Waiting condition mutex frames)) = woken s t mutex frames
 awoken s t (Some NotBegun) = NotEnabled
 awoken s t (Some (Running frames)) = NotEnabled
-awoken s t (Some (Reacquiring mutex frames)) = NotEnabled
+awoken s t (Some (Reacquiring mutex takes frames)) = NotEnabled
 awoken s t (Some Ended) = NotEnabled
 awoken s t None = NotEnabled
 

@@ -8,20 +8,29 @@ use Rattle.c_meaning.specs.State.{Locals, Frame, Status, NotBegun, Running, Wait
 use Rattle.c_meaning.specs.Places.{mutex_at}
 use Rattle.c_meaning.specs.Run.{Reached}
 
--- the resource that a statement acquires, where its place is defined
+-- the resource that a monitor is, where there is one of this number
+abbrev pub monitor_at : Program → ℕ → Option ℕ
+monitor_at p monitor = option_map (λ capacity. monitor_resource p monitor) (slice_get p.monitors monitor)
+
+-- The resource that a statement acquires, where its place is defined. A trylock never waits.
 abbrev pub acquired : Program → State → Locals → Stmts → Option ℕ
 acquired p s locals (Cons (bare.Lock place) rest) = mutex_at p s locals place
-acquired p s locals (Cons (bare.Take monitor) rest) = option_map (λ capacity. monitor_resource p monitor) (slice_get p.monitors monitor)
+acquired p s locals (Cons (bare.Take monitor) rest) = monitor_at p monitor
 acquired p s locals todo = None
 
 abbrev pub acquired_in : Program → State → List Frame → Option ℕ
 acquired_in p s [] = None
 acquired_in p s (f ∷ more) = acquired p s f.locals f.todo
 
+-- the resource that a woken thread acquires first: a token of the first monitor that it still takes, or else its mutex
+abbrev pub needed_again : Program → ℕ → List ℕ → Option ℕ
+needed_again p mutex [] = Some mutex
+needed_again p mutex (monitor ∷ takes) = monitor_at p monitor
+
 -- the resource that a thread's next act locks, takes or acquires again
 abbrev pub wanted : Program → State → Option Status → Option ℕ
 wanted p s (Some (Running frames)) = acquired_in p s frames
-wanted p s (Some (Reacquiring mutex frames)) = Some mutex
+wanted p s (Some (Reacquiring mutex takes frames)) = needed_again p mutex takes
 wanted p s (Some (Waiting condition mutex frames)) = None
 wanted p s (Some NotBegun) = None
 wanted p s (Some Ended) = None

@@ -19,7 +19,7 @@ created_in s t frames u (Some NotBegun) (Some begin) = Done (did.Create u) (with
 created_in s t frames u (Some NotBegun) None = Undefined
 created_in s t frames u (Some (Running fs)) begin = Undefined
 created_in s t frames u (Some (Waiting condition mutex fs)) begin = Undefined
-created_in s t frames u (Some (Reacquiring mutex fs)) begin = Undefined
+created_in s t frames u (Some (Reacquiring mutex takes fs)) begin = Undefined
 created_in s t frames u (Some Ended) begin = Undefined
 created_in s t frames u None begin = Undefined
 
@@ -33,7 +33,7 @@ joined_to s t frames u (Some Ended) = Done (did.Join u) (goes_on s t frames)
 joined_to s t frames u (Some NotBegun) = NotEnabled
 joined_to s t frames u (Some (Running fs)) = NotEnabled
 joined_to s t frames u (Some (Waiting condition mutex fs)) = NotEnabled
-joined_to s t frames u (Some (Reacquiring mutex fs)) = NotEnabled
+joined_to s t frames u (Some (Reacquiring mutex takes fs)) = NotEnabled
 joined_to s t frames u None = Undefined
 
 abbrev pub joined : State → ℕ → List Frame → Option ℕ → Outcome

@@ -20,12 +20,25 @@ waited s t frames (Some condition) (Some mutex) = waited_by s t frames condition
 waited s t frames (Some condition) None = Undefined
 waited s t frames None mutex = Undefined
 
+-- the takes of a wait that stands first in the newest frame
+abbrev pub first_takes : Stmts → List ℕ
+first_takes (Cons (bare.Wait cond place takes) rest) = takes
+first_takes todo = []
+
+abbrev pub takes_of : List Frame → List ℕ
+takes_of [] = []
+takes_of (f ∷ more) = first_takes f.todo
+
+-- a woken thread takes the tokens of its wait, and then its mutex
+abbrev pub acquires_again : ℕ → List Frame → Status
+acquires_again mutex frames = Reacquiring mutex (takes_of frames) frames
+
 -- a thread with this status waits on the condition
 abbrev pub waits_on : ℕ → Status → Bool
 waits_on condition (Waiting c mutex frames) = c == condition
 waits_on condition NotBegun = false
 waits_on condition (Running frames) = false
-waits_on condition (Reacquiring mutex frames) = false
+waits_on condition (Reacquiring mutex takes frames) = false
 waits_on condition Ended = false
 
 -- Signal that wakes none: enabled where no thread waits on the condition
@@ -36,10 +49,10 @@ signalled s t frames None = Undefined
 -- Signal that wakes u: enabled where u waits on the condition, and u then acquires its mutex again
 abbrev pub woken_by : State → ℕ → List Frame → ℕ → ℕ → Option Status → Outcome
 woken_by s t frames condition u (Some (Waiting c mutex waiting)) =
-    if c == condition then Done (did.Signal (Some u)) (with_status (goes_on s t frames) u (Reacquiring mutex waiting)) else NotEnabled
+    if c == condition then Done (did.Signal (Some u)) (with_status (goes_on s t frames) u (acquires_again mutex waiting)) else NotEnabled
 woken_by s t frames condition u (Some NotBegun) = NotEnabled
 woken_by s t frames condition u (Some (Running fs)) = NotEnabled
-woken_by s t frames condition u (Some (Reacquiring mutex fs)) = NotEnabled
+woken_by s t frames condition u (Some (Reacquiring mutex takes fs)) = NotEnabled
 woken_by s t frames condition u (Some Ended) = NotEnabled
 woken_by s t frames condition u None = NotEnabled
 
@@ -49,10 +62,10 @@ signalled_to s t frames u None = Undefined
 
 -- Broadcast: all threads that wait on the condition acquire their mutexes again
 abbrev pub awakened : ℕ → Status → Status
-awakened condition (Waiting c mutex frames) = if c == condition then Reacquiring mutex frames else Waiting c mutex frames
+awakened condition (Waiting c mutex frames) = if c == condition then acquires_again mutex frames else Waiting c mutex frames
 awakened condition NotBegun = NotBegun
 awakened condition (Running frames) = Running frames
-awakened condition (Reacquiring mutex frames) = Reacquiring mutex frames
+awakened condition (Reacquiring mutex takes frames) = Reacquiring mutex takes frames
 awakened condition Ended = Ended
 
 abbrev pub all_awakened : ℕ → State → State
@@ -64,11 +77,11 @@ broadcast s t frames None = Undefined
 
 -- a waiting thread wakes without a signal, and acquires its mutex again
 abbrev pub woken : State → ℕ → ℕ → List Frame → Outcome
-woken s t mutex frames = Done did.Wake (with_status s t (Reacquiring mutex frames))
+woken s t mutex frames = Done did.Wake (with_status s t (acquires_again mutex frames))
 
 -- a woken thread owns its mutex again and runs, and its wait is dropped; no other statement stands first there
 abbrev pub wait_ended : State → ℕ → ℕ → Locals → List Frame → Stmts → Outcome
-wait_ended s t mutex locals more (Cons (bare.Wait cond place) rest) =
+wait_ended s t mutex locals more (Cons (bare.Wait cond place takes) rest) =
     Done (did.Retake mutex) (record (goes_on s t (frame locals rest ∷ more)) { owners = slice_set s.owners mutex (Some t) })
 wait_ended s t mutex locals more todo = Undefined
 
@@ -76,7 +89,7 @@ abbrev pub wait_ended_in : State → ℕ → ℕ → List Frame → Outcome
 wait_ended_in s t mutex [] = Undefined
 wait_ended_in s t mutex (f ∷ more) = wait_ended s t mutex f.locals more f.todo
 
--- a woken thread goes on where its mutex has no owner
+-- a woken thread that has its tokens goes on where its mutex has no owner
 abbrev pub retaken : State → ℕ → ℕ → List Frame → Option (Option ℕ) → Outcome
 retaken s t mutex frames (Some None) = wait_ended_in s t mutex frames
 retaken s t mutex frames (Some (Some owner)) = NotEnabled

@@ -1,12 +1,6 @@
 //! What a program means: its states, what an event does in one, and which threads block each other.
 #![tactic(auto)]
 
-ghost use Rattle.std.specs.Prelude.{◌≡◌, true, None};
-ghost use Rattle.c_tree.specs.Lined as lined;
-ghost use Rattle.c_tree.specs.Lined.{bare_program};
-ghost use Rattle.c_tree.specs.FirstForm.{is_first_form, first_nested};
-ghost use Rattle.c_meaning.specs.Stuck.{NeverStuck};
-
 mod closed;
 mod laws;
 mod printing;
@@ -76,9 +70,3 @@ pub enum Did {
     /// It did anything else.
     Step,
 }
-
-/// No state that a program of the first form reaches, on any input and by any schedule, has a
-/// stuck set, where no lock of it stands below another that isn't unlocked since.
-pub fn one_lock_at_a_time()
-    ensures { (p : lined.Program) → is_first_form (bare_program p) ≡ true → first_nested p ≡ None → NeverStuck (bare_program p) }
-{}

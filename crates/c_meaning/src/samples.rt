@@ -6,9 +6,10 @@ ghost use Rattle.c_meaning.specs.Outcome.{NotEnabled, Undefined};
 ghost use Rattle.c_meaning.specs.Step.{step};
 ghost use Rattle.c_meaning.specs.Run.{run, deeds};
 ghost use Rattle.c_meaning.specs.Stuck.{Blocked, IsStuck};
+ghost use Rattle.c_meaning.specs.Laws.{blocked_for};
 ghost use Rattle.c_meaning.specs.Samples.{taking_turns, crossing, trespassing, go, turns, after, both_threads};
 ghost use Rattle.c_meaning.specs.declared.Did.TheVariants as did;
-ghost use Rattle.c_meaning.specs.Waking.{choose, wake, turns_and, controlled, giving_for_another, signalling, broadcasting, until_the_act};
+ghost use Rattle.c_meaning.specs.Waking.{choose, wake, turns_and, controlled, giving_for_another, signalling, broadcasting, until_the_act, trying, taking_again, woken_and};
 ghost use Rattle.c_meaning.specs.Calling.{dividing, calling, ending_without, looping, reading_nothing};
 ghost use Rattle.c_meaning.specs.ValueTable.{sums, quotients, tests};
 
@@ -64,6 +65,26 @@ pub fn a_woken_thread_needs_its_mutex()
     ensures wakes_none { deeds signalling (wake 1 ∷ wake 1 ∷ []) (after signalling until_the_act) ≡ did.Wake ∷ [] }
     ensures none { deeds signalling (wake 1 ∷ go 2 ∷ []) (after signalling until_the_act) ≡ did.Wake ∷ did.Signal None ∷ [] }
     ensures all { deeds broadcasting (go 2 ∷ go 2 ∷ go 1 ∷ []) (after broadcasting until_the_act) ≡ did.Broadcast ∷ did.Unlock 0 ∷ did.Retake 0 ∷ [] }
+{}
+
+/// A trylock of a mutex that has an owner goes on with the busy arm, and is blocked for nothing.
+pub fn a_trylock_never_waits()
+    ensures owned { (after trying (0 ∷ 0 ∷ 1 ∷ [])).owners ≡ Some 1 ∷ None ∷ [] }
+    ensures done { deeds trying (turns (0 ∷ 0 ∷ 1 ∷ 2 ∷ 2 ∷ 1 ∷ 1 ∷ [])) (start trying [])
+        ≡ did.Create 1 ∷ did.Create 2 ∷ did.Lock 0 ∷ did.Step ∷ did.Step ∷ did.Step ∷ did.Unlock 0 ∷ [] }
+    ensures sums { (after trying (0 ∷ 0 ∷ 1 ∷ 2 ∷ 2 ∷ 1 ∷ 1 ∷ [])).cells ≡ pos 6 ∷ [] }
+    ensures never { blocked_for trying (after trying (0 ∷ 0 ∷ 1 ∷ [])) 2 ≡ None }
+{}
+
+/// A woken thread takes the tokens of its wait in their order, and its mutex after them: it is
+/// blocked for a token also where the mutex is free.
+pub fn a_woken_thread_takes_its_tokens_first()
+    ensures done { deeds taking_again (woken_and (go 2 ∷ go 2 ∷ go 1 ∷ go 1 ∷ go 1 ∷ [])) (start taking_again [])
+        ≡ did.Create 1 ∷ did.Create 2 ∷ did.Lock 0 ∷ did.Wait 0 ∷ did.Take 0 ∷ did.Lock 0 ∷ did.Signal (Some 1) ∷ did.Take 1
+        ∷ did.Unlock 0 ∷ did.Give 0 ∷ did.Take 0 ∷ did.Retake 0 ∷ did.Unlock 0 ∷ [] }
+    ensures free { option_map (λ s. s.owners) (run taking_again (woken_and (go 2 ∷ [])) (start taking_again [])) ≡ Some (None ∷ None ∷ []) }
+    ensures waits { option_map (λ s. step taking_again s (go 1)) (run taking_again (woken_and (go 2 ∷ [])) (start taking_again [])) ≡ Some NotEnabled }
+    ensures blocked { option_map (λ s. blocked_for taking_again s 1) (run taking_again (woken_and (go 2 ∷ [])) (start taking_again [])) ≡ Some (Some 2) }
 {}
 
 /// A number is read and a quotient is printed; where no number is left, nothing is set, and the

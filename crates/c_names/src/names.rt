@@ -132,9 +132,7 @@ fn is_plain_name(name: &[u8]) -> bool
 {
     match name {
         [] => false,
-        [first, rest @ ..] => {
-            is_letter(*first) && are_of_names(rest) && name.len() <= 63 && !is_keyword(name)
-        }
+        [first, rest @ ..] => is_letter(*first) && are_of_names(rest) && !is_keyword(name),
     }
 }
 

@@ -1,12 +1,12 @@
 -- A program that is read has no more functions than tokens.
-use Rattle.std.proofs.Common.{◌≡◌, ℕ, suc, ◌+◌, ◌≤◌, Bool, true, false, List, [], ◌∷◌, ◌++◌, length, map, refl, sym, subst, arith}
+use Rattle.std.proofs.Common.{◌≡◌, ℕ, suc, ◌+◌, ◌≤◌, Bool, true, false, List, [], ◌∷◌, length, sym, subst, arith}
 use Rattle.std.specs.Prelude.{Result, Ok, Err, IfOk}
 use Rattle.std.proofs.lemmas.List.{length-append, length-map}
 use Rattle.c_tree.specs.declared.program.Program as declared
 use Rattle.c_tree.specs.Lined.{Program, program_of, function_of}
 use Rattle.c_grammar.specs.Levels.{Tall}
-use Rattle.c_grammar.specs.Programs.{empty_program, with_slots, with_function}
-use Rattle.parse_laws.specs.Parser.{Got, Parser, Move, Go, commit, refuse, loop}
+use Rattle.c_grammar.specs.Programs.{empty_program}
+use Rattle.parse_laws.specs.Parser.{Got, Parser, Move, loop}
 use Rattle.parse_laws.proofs.Sound.{Sound, SoundMove, stop_sound, go_sound, pure_sound, refuse_sound, sound_map, bind_sound, and_go_sound, commit_sound, when_sound, loop_sound}
 use Rattle.parse_laws.proofs.Loops.{Shrinks}
 use Rattle.c_expressions.specs.Parsers.{Sight, seen}
@@ -16,7 +16,7 @@ use Rattle.c_declarations.specs.declared.tree.Sort.TheVariants as sort
 use Rattle.c_declarations.specs.declared.tree.Head.{Head}
 use Rattle.c_declarations.specs.declared.tree.Begun.{Begun}
 use Rattle.c_declarations.specs.declared.tree.Begun.TheVariants as begun
-use Rattle.c_declarations.specs.Parsers.{line, behind_int, head_behind_void, objects}
+use Rattle.c_declarations.specs.Parsers.{line, behind_int, head_behind_void, objects, wait_declared}
 use Rattle.c_statements.specs.Parsers.{slot_list}
 use Rattle.c_programs.specs.declared.token.Opening.{Opening}
 use Rattle.c_programs.specs.declared.token.Opening.TheVariants as o
@@ -45,7 +45,7 @@ module _ {Token : Type 0} where
     grown_finished : (room : ℕ) (p : Tall Program) (x : Begun) → Sound (finished v room p x) (Grown p)
     grown_finished room p (begun.Cells all) = pure_sound (λ ts. omega arith)
     grown_finished room p (begun.Head h) = grown_added room p h
-    grown_finished room p (begun.Capacities c) = pure_sound (λ ts. omega arith)
+    grown_finished room p (begun.Capacities c) = bind_sound (anyhow (wait_declared v)) (λ x. pure_sound (λ rest ts y. omega arith))
 
     grown_ints : (holds : ℕ → Bool) (room : ℕ) (first : Bool) (l : ℕ) (p : Tall Program) → Sound (ints_added v holds room first l p) (Grown p)
     unfolding ints_added

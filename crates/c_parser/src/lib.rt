@@ -10,8 +10,6 @@
 mod error;
 mod laws;
 mod parser;
-#[cfg(test)]
-mod tests;
 
 pub use error::ParseError;
 pub use laws::{one_answer, one_program};

@@ -101,8 +101,8 @@ fn parse_tokens(alloc: Global, text: &[u8], tokens: &Tokens) -> Result<Program, 
 /// Reads the program that a text spells, with the lines of the text.
 ///
 /// The text has fewer than 2^31 bytes. A program may take 64 levels: a statement of a function stands on the first,
-/// a statement of an arm one below its `if`, `while` or `for`, an expression one below its statement, and what stands
-/// in an operand, an index or parentheses one below that. A text may have 65,536 tokens. The answer is the first of
+/// a statement of an arm one below its `if`, `while` or `for`, an expression, or the trylock that an `if` tests, one
+/// below its statement, and what stands in an operand, an index or parentheses one below that. A text may have 65,536 tokens. The answer is the first of
 /// these in the order of the text:
 ///
 /// - `Lex`: the tokens so far begin a program within the levels, and the lexer refuses what follows.

@@ -1,14 +1,15 @@
 -- The texts of statements, part by part.
-use Rattle.std.proofs.Common.{◌≡◌, ℕ, List, [], ◌∷◌, ◌++◌, codes, refl, ◌∙◌, ap, append_assoc, Option, Some}
+use Rattle.std.proofs.Common.{◌≡◌, ◌<◌, ℕ, length, arith, List, [], ◌∷◌, ◌++◌, codes, map, refl, sym, ◌∙◌, ap, append_assoc, Option, Some}
+use Rattle.std.proofs.lemmas.Fmt.{decimal_digit}
 use Rattle.c_lexer.specs.declared.token.Sign.TheVariants as s
-use Rattle.c_layout.specs.Layout.{Item, text, word, sign, space}
+use Rattle.c_layout.specs.Layout.{Item, text, word, number, sign, space}
 use Rattle.c_layout.proofs.Readings.{text_append}
 use Rattle.c_tree.specs.declared.program.Kind.{Kind}
 use Rattle.c_tree.specs.declared.program.Kind.TheVariants as k
 use Rattle.c_tree.specs.Expressions.{Expr, Exprs, Place}
-use Rattle.c_tree.specs.Bare.{Stmts, Declare, Call, Read, Print, Create, Wait}
-use Rattle.c_canonical.specs.Expressions.{expression, expressions, place, is_binary, wrapped, followed, separated}
-use Rattle.c_canonical.specs.Statements.{called, address, with_null, assigned, initial, argument_cast, returned, simple, part, headed}
+use Rattle.c_tree.specs.Bare.{Stmts, Declare, Call, Read, Print, Create}
+use Rattle.c_canonical.specs.Expressions.{expression, expressions, place, is_binary, wrapped, followed, separated, numeral}
+use Rattle.c_canonical.specs.Statements.{called, address, with_null, assigned, initial, argument_cast, returned, taking, waited, simple, part, tried, headed}
 use Rattle.c_print.proofs.Chains.{chain2, chain3, chain4, chain5, chain6, chain7}
 
 -- the end of a call
@@ -101,13 +102,55 @@ object_call_text old first second third fourth function object p0 p1 p2 p3 =
     chain4 old first second third fourth function (codes "(&") (text (place object)) (codes ")") (text (called function (address object))) p0 p1 p2 p3
     (ap (λ x. function ++ (codes "(&" ++ x)) (text_append (place object) closed))
 
-pub wait_text : (old first second third fourth fifth : List ℕ) (kind : Kind) (cond : Place) (mutex : Place)
-    → first ≡ old ++ codes "pthread_cond_wait(&" → second ≡ first ++ text (place cond) → third ≡ second ++ codes ", &" → fourth ≡ third ++ text (place mutex) → fifth ≡ fourth ++ codes ")" → fifth ≡ old ++ text (simple kind (Wait cond mutex))
-wait_text old first second third fourth fifth kind cond mutex p0 p1 p2 p3 p4 =
-    chain5 old first second third fourth fifth (codes "pthread_cond_wait(&") (text (place cond)) (codes ", &") (text (place mutex)) (codes ")") (text (simple kind (Wait cond mutex))) p0 p1 p2 p3 p4
+pub wait_text : (old first second third fourth fifth : List ℕ) (cond : Place) (mutex : Place)
+    → first ≡ old ++ codes "pthread_cond_wait(&" → second ≡ first ++ text (place cond) → third ≡ second ++ codes ", &" → fourth ≡ third ++ text (place mutex) → fifth ≡ fourth ++ codes ")" → fifth ≡ old ++ text (waited cond mutex [])
+wait_text old first second third fourth fifth cond mutex p0 p1 p2 p3 p4 =
+    chain5 old first second third fourth fifth (codes "pthread_cond_wait(&") (text (place cond)) (codes ", &") (text (place mutex)) (codes ")") (text (waited cond mutex [])) p0 p1 p2 p3 p4
     (ap (λ x. codes "pthread_cond_wait(&" ++ x) (text_append (place cond ++ sign s.Comma ∷ space ∷ address mutex) closed
     ∙ ap (λ x. x ++ codes ")") (text_append (place cond) (sign s.Comma ∷ space ∷ address mutex))
     ∙ append_assoc (text (place cond)) (text (sign s.Comma ∷ space ∷ address mutex)) (codes ")")))
+
+-- what follows the mutex of a wait that takes tokens, and the end of the call
+taking_shape : (monitors : List ℕ) → text (taking monitors ++ closed) ≡ text (followed (map numeral monitors)) ++ codes ", -1)"
+taking_shape monitors =
+    let last : List Item = sign s.Comma ∷ space ∷ sign s.Minus ∷ number 1 ∷ [] in
+    text_append (taking monitors) closed ∙ ap (λ x. x ++ codes ")") (text_append (followed (map numeral monitors)) last
+    ∙ ap (λ x. text (followed (map numeral monitors)) ++ (codes ", -" ++ (x ++ []))) (decimal_digit 1 (omega arith)))
+    ∙ append_assoc (text (followed (map numeral monitors))) (codes ", -1") (codes ")")
+
+-- A list that has a first item.
+pub record Begun (all : List ℕ) : Type 0 where
+  pub first : ℕ
+  pub more : List ℕ
+  pub is : all ≡ first ∷ more
+
+pub begun : (all : List ℕ) → 0 < length all → Begun all
+begun [] some = absurd (omega (arith, some))
+begun (k ∷ ks) some = record { first = k; more = ks; is = refl }
+
+pub taking_text : (old first second third fourth fifth sixth : List ℕ) (cond mutex : Place) (given : List ℕ) (k : ℕ) (ks : List ℕ) → given ≡ k ∷ ks
+    → first ≡ old ++ codes "gd_cond_wait(&" → second ≡ first ++ text (place cond) → third ≡ second ++ codes ", &" → fourth ≡ third ++ text (place mutex)
+    → fifth ≡ fourth ++ text (followed (map numeral given)) → sixth ≡ fifth ++ codes ", -1)" → sixth ≡ old ++ text (waited cond mutex given)
+taking_text old first second third fourth fifth sixth cond mutex given k ks is p0 p1 p2 p3 p4 p5 =
+    let numbers = text (followed (map numeral given)) in
+    let behind = address mutex ++ taking (k ∷ ks) in
+    chain6 old first second third fourth fifth sixth (codes "gd_cond_wait(&") (text (place cond)) (codes ", &") (text (place mutex)) numbers (codes ", -1)") (text (waited cond mutex given)) p0 p1 p2 p3 p4 p5
+    (ap (λ x. text (waited cond mutex x)) is
+    ∙ ap (λ x. codes "gd_cond_wait(&" ++ text x) (append_assoc (place cond) (sign s.Comma ∷ space ∷ behind) closed)
+    ∙ ap (λ x. codes "gd_cond_wait(&" ++ x) (text_append (place cond) (sign s.Comma ∷ space ∷ (behind ++ closed)))
+    ∙ ap (λ x. codes "gd_cond_wait(&" ++ (text (place cond) ++ (codes ", &" ++ text x))) (append_assoc (place mutex) (taking (k ∷ ks)) closed)
+    ∙ ap (λ x. codes "gd_cond_wait(&" ++ (text (place cond) ++ (codes ", &" ++ x))) (text_append (place mutex) (taking (k ∷ ks) ++ closed) ∙ ap (λ x. text (place mutex) ++ x) (taking_shape (k ∷ ks)))
+    ∙ ap (λ x. codes "gd_cond_wait(&" ++ (text (place cond) ++ (codes ", &" ++ (text (place mutex) ++ (text (followed (map numeral x)) ++ codes ", -1)"))))) (sym is))
+
+pub try_head_text : (old first second third : List ℕ) (mutex : Place)
+    → first ≡ old ++ codes "if (pthread_mutex_trylock(&" → second ≡ first ++ text (place mutex) → third ≡ second ++ codes ") == 0) " → third ≡ old ++ text (headed (codes "if") (tried mutex))
+try_head_text old first second third mutex p0 p1 p2 =
+    let behind : List Item = space ∷ sign s.Equal ∷ space ∷ number 0 ∷ [] in
+    let end : List Item = sign s.RightParenthesis ∷ space ∷ [] in
+    chain3 old first second third (codes "if (pthread_mutex_trylock(&") (text (place mutex)) (codes ") == 0) ") (text (headed (codes "if") (tried mutex))) p0 p1 p2
+    (ap (λ x. codes "if (pthread_mutex_trylock(&" ++ text x) (append_assoc (place mutex ++ closed) behind end ∙ append_assoc (place mutex) closed (behind ++ end))
+    ∙ ap (λ x. codes "if (pthread_mutex_trylock(&" ++ x) (text_append (place mutex) (closed ++ (behind ++ end)))
+    ∙ ap (λ x. codes "if (pthread_mutex_trylock(&" ++ (text (place mutex) ++ (codes ") == " ++ (x ++ codes ") ")))) (decimal_digit 0 (omega arith)))
 
 pub for_head_text : (old first second third fourth fifth sixth seventh : List ℕ) (kind : Kind) (first_part : Stmts) (test : Expr) (step : Stmts)
     → first ≡ old ++ codes "for (" → second ≡ first ++ text (part kind first_part) → third ≡ second ++ codes "; " → fourth ≡ third ++ text (expression test) → fifth ≡ fourth ++ codes "; " → sixth ≡ fifth ++ text (part kind step) → seventh ≡ sixth ++ codes ") " → seventh ≡ old ++ text (headed (codes "for") (for_parts kind first_part test step))

@@ -6,11 +6,11 @@ use Rattle.c_layout.specs.Layout.{Item, text, gap, sign, newline}
 use Rattle.c_layout.proofs.Readings.{text_append}
 use Rattle.c_tree.specs.declared.program.Kind.{Kind}
 use Rattle.c_tree.specs.declared.stmt.Stmt as declared
-use Rattle.c_tree.specs.Expressions.{Expr}
-use Rattle.c_tree.specs.Bare.{Stmt, Stmts, If, While, For}
+use Rattle.c_tree.specs.Expressions.{Expr, Place}
+use Rattle.c_tree.specs.Bare.{Stmt, Stmts, If, TryLock, While, For}
 use Rattle.c_tree.specs.Lined.{stmt_of, stmts_of, bare_stmt, bare_stmts}
 use Rattle.c_canonical.specs.Expressions.{expression}
-use Rattle.c_canonical.specs.Statements.{headed, block, deeper, is_chain, statement, statements, otherwise}
+use Rattle.c_canonical.specs.Statements.{tried, headed, block, deeper, is_chain, statement, statements, otherwise}
 use Rattle.c_print.proofs.Chains.{chain2, chain3, chain4}
 use Rattle.c_print.proofs.Loops.{turn}
 use Rattle.c_print.proofs.ActTexts.{for_parts}
@@ -32,6 +32,16 @@ if_text old first second third margin kind given test then_arm else_arm is p0 p1
     let head = headed (codes "if") (expression test) in
     let arm = block margin (statements kind (deeper margin) then_arm) in
     let other = otherwise kind margin else_arm in
+    chain3 old first second third (text head) (text arm) (text other) (text (statement kind margin given)) p0 p1 p2
+    (ap (λ x. text (statement kind margin x)) is ∙ text_append head (arm ++ other) ∙ ap (λ x. text head ++ x) (text_append arm other))
+
+pub try_lock_text : (old first second third margin : List ℕ) (kind : Kind) (given : Stmt) (place : Place) (taken busy : Stmts) → given ≡ TryLock place taken busy
+    → first ≡ old ++ text (headed (codes "if") (tried place)) → second ≡ first ++ text (block margin (statements kind (deeper margin) taken))
+    → third ≡ second ++ text (otherwise kind margin busy) → third ≡ old ++ text (statement kind margin given)
+try_lock_text old first second third margin kind given place taken busy is p0 p1 p2 =
+    let head = headed (codes "if") (tried place) in
+    let arm = block margin (statements kind (deeper margin) taken) in
+    let other = otherwise kind margin busy in
     chain3 old first second third (text head) (text arm) (text other) (text (statement kind margin given)) p0 p1 p2
     (ap (λ x. text (statement kind margin x)) is ∙ text_append head (arm ++ other) ∙ ap (λ x. text head ++ x) (text_append arm other))
 

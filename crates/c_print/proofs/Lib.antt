@@ -4,4 +4,5 @@ pub mod Loops
 pub mod ActTexts
 pub mod BlockTexts
 pub mod Shown
+pub mod Waiting
 pub mod ProgramTexts

@@ -1,5 +1,5 @@
 -- The texts of declarations and functions, part by part.
-use Rattle.std.proofs.Common.{◌≡◌, ℕ, suc, ◌<◌, ◌+◌, ℤ, pos, negsuc, List, [], ◌∷◌, ◌++◌, codes, map, replicate, length as size, get_or, drop, refl, sym, ◌∙◌, ap, append_assoc, append-nil, Some, None}
+use Rattle.std.proofs.Common.{◌≡◌, ℕ, suc, ◌<◌, ◌+◌, ℤ, pos, negsuc, Bool, List, [], ◌∷◌, ◌++◌, codes, map, replicate, length as size, get_or, drop, refl, sym, ◌∙◌, ap, append_assoc, append-nil, Some, None}
 use Rattle.std.specs.List.{flat_map}
 use Rattle.std.specs.Fmt.{decimal, signed_decimal}
 use Rattle.c_lexer.specs.declared.token.Sign.TheVariants as s
@@ -7,10 +7,11 @@ use Rattle.c_layout.specs.Layout.{Item, text, word, sign, space, newline}
 use Rattle.c_layout.proofs.Readings.{text_append}
 use Rattle.c_tree.specs.declared.program.Kind.{Kind}
 use Rattle.c_tree.specs.Bare.{Cell, Array, Object, Slot, Function, Program}
-use Rattle.c_canonical.specs.Expressions.{followed, separated}
+use Rattle.c_canonical.specs.Expressions.{followed, separated, numeral}
 use Rattle.c_canonical.specs.Statements.{statements}
-use Rattle.c_canonical.specs.Programs.{value, length_of, cell, values, array, initialisers, readied, object, mutex, condition, slot, monitor_call, capacity, monitors, result_type, parameter_type, parameter, parameters, function_head, function, declarations}
-use Rattle.c_print.proofs.Chains.{chain2, chain3, chain4, chain5, chain6}
+use Rattle.c_canonical.specs.Waits.{some_waits}
+use Rattle.c_canonical.specs.Programs.{value, length_of, cell, values, array, initialisers, readied, object, mutex, condition, slot, monitor_call, wait_call, monitors, result_type, parameter_type, parameter, parameters, function_head, function, declarations}
+use Rattle.c_print.proofs.Chains.{chain2, chain3, chain4, chain5, chain6, chain7}
 use Rattle.c_print.proofs.Loops.{turn, turn_at}
 
 -- the end of a declaration, of a function's head, and of a function
@@ -30,10 +31,10 @@ pub value_text : (v : ℤ) → text (value v) ≡ signed_decimal v
 value_text (pos n) = append-nil (decimal n)
 value_text (negsuc n) = ap (λ x. 45 ∷ x) (append-nil (decimal (suc n)))
 
-declared_parts : (p : Program) → text (declarations p) ≡ text (monitors p.cap_len p.monitors) ++ (text (flat_map cell p.ints) ++ (text (flat_map array p.arrays)
+declared_parts : (p : Program) → text (declarations p) ≡ text (monitors p.cap_len p.monitors (some_waits p.functions)) ++ (text (flat_map cell p.ints) ++ (text (flat_map array p.arrays)
     ++ (text (flat_map mutex p.mutexes) ++ (text (flat_map condition p.conds) ++ text (flat_map slot p.threads)))))
 declared_parts p =
-    text_append (monitors p.cap_len p.monitors) _ ∙ ap (λ x. text (monitors p.cap_len p.monitors) ++ x) (text_append (flat_map cell p.ints) _
+    text_append (monitors p.cap_len p.monitors (some_waits p.functions)) _ ∙ ap (λ x. text (monitors p.cap_len p.monitors (some_waits p.functions)) ++ x) (text_append (flat_map cell p.ints) _
     ∙ ap (λ x. text (flat_map cell p.ints) ++ x) (text_append (flat_map array p.arrays) _
     ∙ ap (λ x. text (flat_map array p.arrays) ++ x) (text_append (flat_map mutex p.mutexes) _
     ∙ ap (λ x. text (flat_map mutex p.mutexes) ++ x) (text_append (flat_map condition p.conds) (flat_map slot p.threads)))))
@@ -57,23 +58,23 @@ list_text old first second w given less is p0 p1 =
 abbrev calls_text : List ℕ
 calls_text = codes "};\nvoid gd_take(int k);\nvoid gd_give(int k);\n"
 
-monitors_shape : (len cap : ℕ) (caps : List ℕ) → text (monitors len (cap ∷ caps))
-    ≡ codes "int gd_cap" ++ (text (length_of (Some len)) ++ (codes " = {" ++ (decimal cap ++ (text (followed (map capacity caps)) ++ calls_text))))
-monitors_shape len cap caps =
-    let rest = followed (map capacity caps) in
-    let calls = monitor_call (codes "gd_take") ++ monitor_call (codes "gd_give") in
+monitors_shape : (len cap : ℕ) (caps : List ℕ) (waits : Bool) → text (monitors len (cap ∷ caps) waits)
+    ≡ codes "int gd_cap" ++ (text (length_of (Some len)) ++ (codes " = {" ++ (decimal cap ++ (text (followed (map numeral caps)) ++ (calls_text ++ text (wait_call waits))))))
+monitors_shape len cap caps waits =
+    let rest = followed (map numeral caps) in
+    let calls = monitor_call (codes "gd_take") ++ (monitor_call (codes "gd_give") ++ wait_call waits) in
     let brace : List Item = sign s.RightBrace ∷ [] in
-    let inner : text (((rest ++ brace) ++ ending) ++ calls) ≡ text rest ++ calls_text =
+    let inner : text (((rest ++ brace) ++ ending) ++ calls) ≡ text rest ++ (calls_text ++ text (wait_call waits)) =
     ap text (append_assoc (rest ++ brace) ending calls ∙ append_assoc rest brace (ending ++ calls)) ∙ text_append rest (brace ++ (ending ++ calls)) in
     ap (λ x. codes "int gd_cap[" ++ (decimal len ++ (codes "] = {" ++ (decimal cap ++ x)))) inner
-    ∙ sym (ap (λ x. codes "int gd_cap[" ++ x) (append_assoc (decimal len) (codes "]") (codes " = {" ++ (decimal cap ++ (text rest ++ calls_text)))))
+    ∙ sym (ap (λ x. codes "int gd_cap[" ++ x) (append_assoc (decimal len) (codes "]") (codes " = {" ++ (decimal cap ++ (text rest ++ (calls_text ++ text (wait_call waits)))))))
 
-pub monitors_text : (old first second third fourth fifth sixth : List ℕ) (len : ℕ) (given : List ℕ) (cap : ℕ) (caps : List ℕ) → given ≡ cap ∷ caps
+pub monitors_text : (old first second third fourth fifth sixth seventh : List ℕ) (len : ℕ) (given : List ℕ) (cap : ℕ) (caps : List ℕ) (waits : Bool) → given ≡ cap ∷ caps
     → first ≡ old ++ codes "int gd_cap" → second ≡ first ++ text (length_of (Some len)) → third ≡ second ++ codes " = {" → fourth ≡ third ++ decimal cap
-    → fifth ≡ fourth ++ text (followed (map capacity caps)) → sixth ≡ fifth ++ calls_text → sixth ≡ old ++ text (monitors len given)
-monitors_text old first second third fourth fifth sixth len given cap caps is p0 p1 p2 p3 p4 p5 =
-    chain6 old first second third fourth fifth sixth (codes "int gd_cap") (text (length_of (Some len))) (codes " = {") (decimal cap) (text (followed (map capacity caps))) calls_text
-    (text (monitors len given)) p0 p1 p2 p3 p4 p5 (ap (λ x. text (monitors len x)) is ∙ monitors_shape len cap caps)
+    → fifth ≡ fourth ++ text (followed (map numeral caps)) → sixth ≡ fifth ++ calls_text → seventh ≡ sixth ++ text (wait_call waits) → seventh ≡ old ++ text (monitors len given waits)
+monitors_text old first second third fourth fifth sixth seventh len given cap caps waits is p0 p1 p2 p3 p4 p5 p6 =
+    chain7 old first second third fourth fifth sixth seventh (codes "int gd_cap") (text (length_of (Some len))) (codes " = {") (decimal cap) (text (followed (map numeral caps))) calls_text (text (wait_call waits))
+    (text (monitors len given waits)) p0 p1 p2 p3 p4 p5 p6 (ap (λ x. text (monitors len x waits)) is ∙ monitors_shape len cap caps waits)
 
 -- the parameters of a function
 pub parameters_text : (old first second : List ℕ) (kind : Kind) (given : List (List ℕ)) (p : List ℕ) (ps : List (List ℕ)) → given ≡ p ∷ ps → first ≡ old ++ text (parameter kind p)
@@ -159,10 +160,10 @@ slot_text old first second third fourth given p0 p1 p2 p3 =
     chain4 old first second third fourth (codes "pthread_t ") given.name (text (length_of given.len)) (codes ";\n") (text (slot given)) p0 p1 p2 p3
     (ap (λ x. codes "pthread_t " ++ (given.name ++ x)) (text_append (length_of given.len) ending))
 
-pub following_cap_text : (old first second : List ℕ) (n : ℕ)
-    → first ≡ old ++ codes ", " → second ≡ first ++ decimal n → second ≡ old ++ 44 ∷ 32 ∷ text (capacity n)
-following_cap_text old first second n p0 p1 =
-    chain2 old first second (codes ", ") (decimal n) (44 ∷ 32 ∷ text (capacity n)) p0 p1
+pub next_number_text : (old first second : List ℕ) (n : ℕ)
+    → first ≡ old ++ codes ", " → second ≡ first ++ decimal n → second ≡ old ++ 44 ∷ 32 ∷ text (numeral n)
+next_number_text old first second n p0 p1 =
+    chain2 old first second (codes ", ") (decimal n) (44 ∷ 32 ∷ text (numeral n)) p0 p1
     (ap (λ x. 44 ∷ 32 ∷ x) (append-nil (decimal n)))
 
 pub parameter_text : (old first second : List ℕ) (kind : Kind) (name : List ℕ)
@@ -192,7 +193,7 @@ function_text old first second third f p0 p1 p2 =
     ∙ ap (λ x. text (function_head f) ++ x) (text_append (statements f.kind (codes "    ") f.body) last_line))
 
 pub declarations_text : (old first second third fourth fifth sixth : List ℕ) (p : Program)
-    → first ≡ old ++ text (monitors p.cap_len p.monitors) → second ≡ first ++ text (flat_map cell p.ints) → third ≡ second ++ text (flat_map array p.arrays) → fourth ≡ third ++ text (flat_map mutex p.mutexes) → fifth ≡ fourth ++ text (flat_map condition p.conds) → sixth ≡ fifth ++ text (flat_map slot p.threads) → sixth ≡ old ++ text (declarations p)
+    → first ≡ old ++ text (monitors p.cap_len p.monitors (some_waits p.functions)) → second ≡ first ++ text (flat_map cell p.ints) → third ≡ second ++ text (flat_map array p.arrays) → fourth ≡ third ++ text (flat_map mutex p.mutexes) → fifth ≡ fourth ++ text (flat_map condition p.conds) → sixth ≡ fifth ++ text (flat_map slot p.threads) → sixth ≡ old ++ text (declarations p)
 declarations_text old first second third fourth fifth sixth p p0 p1 p2 p3 p4 p5 =
-    chain6 old first second third fourth fifth sixth (text (monitors p.cap_len p.monitors)) (text (flat_map cell p.ints)) (text (flat_map array p.arrays)) (text (flat_map mutex p.mutexes)) (text (flat_map condition p.conds)) (text (flat_map slot p.threads)) (text (declarations p)) p0 p1 p2 p3 p4 p5
+    chain6 old first second third fourth fifth sixth (text (monitors p.cap_len p.monitors (some_waits p.functions))) (text (flat_map cell p.ints)) (text (flat_map array p.arrays)) (text (flat_map mutex p.mutexes)) (text (flat_map condition p.conds)) (text (flat_map slot p.threads)) (text (declarations p)) p0 p1 p2 p3 p4 p5
     (declared_parts p)

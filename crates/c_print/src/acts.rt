@@ -1,6 +1,6 @@
 // Statements of one line, without their `;`.
 
-ghost use Rattle.std.specs.Prelude.{◌≡◌, [], ◌∷◌, ◌++◌, Some, None, OnOk, codes};
+ghost use Rattle.std.specs.Prelude.{◌≡◌, ◌<◌, [], ◌∷◌, ◌++◌, Some, None, OnOk, codes, map, length};
 ghost use Rattle.c_lexer.specs.declared.token.Sign.TheVariants as s;
 ghost use Rattle.c_layout.specs.Layout as tokens;
 ghost use Rattle.c_layout.specs.Layout.{text};
@@ -8,12 +8,12 @@ ghost use Rattle.c_tree.specs.declared.program.Kind.TheVariants as k;
 ghost use Rattle.c_tree.specs.Bare as bare;
 ghost use Rattle.c_tree.specs.Expressions.{expr_of, exprs_of, place_of, value_of, target_of};
 ghost use Rattle.c_tree.specs.Lined.{stmt_of, stmts_of, bare_stmt, bare_stmts};
-ghost use Rattle.c_canonical.specs.Expressions.{expression, expressions, followed, separated, is_binary, wrapped};
+ghost use Rattle.c_canonical.specs.Expressions.{expression, expressions, followed, separated, numeral, is_binary, wrapped};
 ghost use Rattle.c_canonical.specs.Statements as spec;
 
 use crate::expressions::{expression, is_binary, operand, place};
 use crate::writing::{put, put_name, put_number};
-use c_tree::{Act, Expr, Exprs, Kind, Name, Place, Stmt};
+use c_tree::{Act, Expr, Exprs, Kind, Name, Numbers, Place, Stmt};
 use std::alloc::{AllocError, Global};
 
 /// A comma, a space and an expression.
@@ -273,14 +273,53 @@ fn object_call(
     Ok(())
 }
 
-fn wait(
+/// A comma, a space and a number.
+fn next_number(out: &mut Vec<u8>, alloc: Global, n: u32) -> Result<(), AllocError>
+    ensures { OnOk result (out.new.items ≡ out.old.items ++ 44 ∷ 32 ∷ text (numeral n)) }
+{
+    put(out, b", ")?;
+    put_number(out, alloc, n)?;
+    Ok(())
+}
+
+/// Numbers, each behind a comma and a space.
+pub fn following_numbers(out: &mut Vec<u8>, alloc: Global, ns: &[u32]) -> Result<(), AllocError>
+    ensures { OnOk result (out.new.items ≡ out.old.items ++ text (followed (map numeral ns.now))) }
+{
+    for n in ns {
+        next_number(out, alloc, *n)?;
+    }
+    Ok(())
+}
+
+/// A wait that takes tokens of these monitors.
+fn taking_wait(
     out: &mut Vec<u8>,
     alloc: Global,
-    kind: Kind,
+    cond: &Place,
+    mutex: &Place,
+    takes: &[u32],
+) -> Result<(), AllocError>
+    requires some { 0 < length takes.now }
+    ensures { OnOk result (out.new.items ≡ out.old.items ++ text (spec.waited (place_of cond.now) (place_of mutex.now) takes.now)) }
+{
+    put(out, b"gd_cond_wait(&")?;
+    place(out, alloc, cond)?;
+    put(out, b", &")?;
+    place(out, alloc, mutex)?;
+    following_numbers(out, alloc, takes)?;
+    put(out, b", -1)")?;
+    Ok(())
+}
+
+/// A wait that takes no tokens.
+fn plain_wait(
+    out: &mut Vec<u8>,
+    alloc: Global,
     cond: &Place,
     mutex: &Place,
 ) -> Result<(), AllocError>
-    ensures { OnOk result (out.new.items ≡ out.old.items ++ text (spec.simple kind (bare.Wait (place_of cond.now) (place_of mutex.now)))) }
+    ensures { OnOk result (out.new.items ≡ out.old.items ++ text (spec.waited (place_of cond.now) (place_of mutex.now) [])) }
 {
     put(out, b"pthread_cond_wait(&")?;
     place(out, alloc, cond)?;
@@ -288,6 +327,24 @@ fn wait(
     place(out, alloc, mutex)?;
     put(out, b")")?;
     Ok(())
+}
+
+fn wait(
+    out: &mut Vec<u8>,
+    alloc: Global,
+    kind: Kind,
+    cond: &Place,
+    mutex: &Place,
+    takes: &Numbers,
+) -> Result<(), AllocError>
+    ensures { OnOk result (out.new.items ≡ out.old.items ++ text (spec.simple kind (bare.Wait (place_of cond.now) (place_of mutex.now) takes.now))) }
+{
+    let monitors = takes.as_slice();
+    if monitors.is_empty() {
+        plain_wait(out, alloc, cond, mutex)
+    } else {
+        taking_wait(out, alloc, cond, mutex, monitors)
+    }
 }
 
 /// A function called with the number of a monitor.
@@ -318,7 +375,7 @@ pub fn simple(out: &mut Vec<u8>, alloc: Global, kind: Kind, s: &Stmt) -> Result<
             function,
             args,
         } => call(out, alloc, kind, target, function, args),
-        Act::If { .. } | Act::While { .. } | Act::For { .. } => Ok(()),
+        Act::If { .. } | Act::TryLock { .. } | Act::While { .. } | Act::For { .. } => Ok(()),
         Act::Return { value } => return_of(out, alloc, kind, value),
         Act::Read { target } => read(out, alloc, kind, target),
         Act::Print { format, args } => print(out, alloc, kind, format, args),
@@ -332,7 +389,7 @@ pub fn simple(out: &mut Vec<u8>, alloc: Global, kind: Kind, s: &Stmt) -> Result<
         Act::InitCond { place } => init_call(out, alloc, b"pthread_cond_init", place),
         Act::Lock { place } => object_call(out, alloc, b"pthread_mutex_lock", place),
         Act::Unlock { place } => object_call(out, alloc, b"pthread_mutex_unlock", place),
-        Act::Wait { cond, mutex } => wait(out, alloc, kind, cond, mutex),
+        Act::Wait { cond, mutex, takes } => wait(out, alloc, kind, cond, mutex, takes),
         Act::Signal { cond } => object_call(out, alloc, b"pthread_cond_signal", cond),
         Act::Broadcast { cond } => object_call(out, alloc, b"pthread_cond_broadcast", cond),
         Act::Take { monitor } => monitor_call(out, alloc, b"gd_take", *monitor),

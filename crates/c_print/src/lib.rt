@@ -7,8 +7,7 @@ mod acts;
 mod expressions;
 mod programs;
 mod statements;
-#[cfg(test)]
-mod tests;
+mod waits;
 mod writing;
 
 pub use programs::print;

@@ -9,8 +9,11 @@ ghost use Rattle.c_canonical.specs.Canonical.{HasText, SpellsBare};
 ghost use Rattle.c_canonical.specs.Expressions.{followed, separated};
 ghost use Rattle.c_canonical.specs.Programs as spec;
 ghost use Rattle.c_canonical.specs.Statements.{statements};
+ghost use Rattle.c_canonical.specs.Waits.{some_waits};
 
+use crate::acts::following_numbers;
 use crate::statements::lines;
+use crate::waits::some_waits;
 use crate::writing::{put, put_name, put_number, put_value};
 use c_tree::{Array, Cell, Function, Kind, Name, Names, Object, Program, Slot, Values};
 use std::alloc::{AllocError, Global};
@@ -239,27 +242,28 @@ fn slots(out: &mut Vec<u8>, alloc: Global, ts: &[Slot]) -> Result<(), AllocError
     Ok(())
 }
 
-fn following_cap(out: &mut Vec<u8>, alloc: Global, cap: u32) -> Result<(), AllocError>
-    ensures { OnOk result (out.new.items ≡ out.old.items ++ 44 ∷ 32 ∷ text (spec.capacity cap)) }
+/// The declaration of the waits that take tokens, where there are any.
+fn wait_call(out: &mut Vec<u8>, waits: bool) -> Result<(), AllocError>
+    ensures { OnOk result (out.new.items ≡ out.old.items ++ text (spec.wait_call waits)) }
 {
-    put(out, b", ")?;
-    put_number(out, alloc, cap)?;
-    Ok(())
-}
-
-/// Capacities, each behind a comma and a space.
-fn following_caps(out: &mut Vec<u8>, alloc: Global, caps: &[u32]) -> Result<(), AllocError>
-    ensures { OnOk result (out.new.items ≡ out.old.items ++ text (followed (map spec.capacity caps.now))) }
-{
-    for cap in caps {
-        following_cap(out, alloc, *cap)?;
+    if !waits {
+        return Ok(());
     }
-    Ok(())
+    put(
+        out,
+        b"void gd_cond_wait(pthread_cond_t *c, pthread_mutex_t *m, ...);\n",
+    )
 }
 
 /// The declarations of the monitors, if there are any.
-fn monitors(out: &mut Vec<u8>, alloc: Global, len: u32, caps: &[u32]) -> Result<(), AllocError>
-    ensures { OnOk result (out.new.items ≡ out.old.items ++ text (spec.monitors len caps.now)) }
+fn monitors(
+    out: &mut Vec<u8>,
+    alloc: Global,
+    len: u32,
+    caps: &[u32],
+    waits: bool,
+) -> Result<(), AllocError>
+    ensures { OnOk result (out.new.items ≡ out.old.items ++ text (spec.monitors len caps.now waits)) }
 {
     match caps.split_first() {
         None => Ok(()),
@@ -268,8 +272,9 @@ fn monitors(out: &mut Vec<u8>, alloc: Global, len: u32, caps: &[u32]) -> Result<
             length(out, alloc, len)?;
             put(out, b" = {")?;
             put_number(out, alloc, *first)?;
-            following_caps(out, alloc, more)?;
+            following_numbers(out, alloc, more)?;
             put(out, b"};\nvoid gd_take(int k);\nvoid gd_give(int k);\n")?;
+            wait_call(out, waits)?;
             Ok(())
         }
     }
@@ -378,9 +383,10 @@ fn functions(out: &mut Vec<u8>, alloc: Global, fs: &[Function]) -> Result<(), Al
 }
 
 fn all_monitors(out: &mut Vec<u8>, alloc: Global, p: &Program) -> Result<(), AllocError>
-    ensures { OnOk result (out.new.items ≡ out.old.items ++ text (spec.monitors p.now.cap_len p.now.monitors)) }
+    ensures { OnOk result (out.new.items ≡ out.old.items ++ text (spec.monitors p.now.cap_len p.now.monitors (some_waits (map bare_function (map function_of p.now.functions))))) }
 {
-    monitors(out, alloc, p.cap_len, p.monitors.as_slice())
+    let waits = some_waits(p.functions.as_slice());
+    monitors(out, alloc, p.cap_len, p.monitors.as_slice(), waits)
 }
 
 fn all_ints(out: &mut Vec<u8>, alloc: Global, p: &Program) -> Result<(), AllocError>

@@ -4,15 +4,15 @@ ghost use Rattle.std.specs.Prelude.{◌≡◌, [], ◌∷◌, ◌++◌, IfOk, On
 ghost use Rattle.c_lexer.specs.declared.token.Sign.TheVariants as signs;
 ghost use Rattle.c_layout.specs.Layout as tokens;
 ghost use Rattle.c_layout.specs.Layout.{text};
-ghost use Rattle.c_tree.specs.Expressions.{expr_of};
+ghost use Rattle.c_tree.specs.Expressions.{expr_of, place_of};
 ghost use Rattle.c_tree.specs.Lined.{stmt_of, stmts_of, bare_stmt, bare_stmts};
 ghost use Rattle.c_canonical.specs.Expressions as expressions;
 ghost use Rattle.c_canonical.specs.Statements as spec;
 
 use crate::acts::simple;
-use crate::expressions::expression;
+use crate::expressions::{expression, place};
 use crate::writing::put;
-use c_tree::{Act, Expr, Kind, Stmt};
+use c_tree::{Act, Expr, Kind, Place, Stmt};
 use std::alloc::{AllocError, Global};
 
 /// The first part or the step of a `for`.
@@ -33,6 +33,16 @@ fn head(out: &mut Vec<u8>, alloc: Global, keyword: &[u8], test: &Expr) -> Result
     put(out, b" (")?;
     expression(out, alloc, test)?;
     put(out, b") ")?;
+    Ok(())
+}
+
+/// The head of an `if` over a trylock, before its block.
+fn try_head(out: &mut Vec<u8>, alloc: Global, mutex: &Place) -> Result<(), AllocError>
+    ensures { OnOk result (out.new.items ≡ out.old.items ++ text (spec.headed (codes "if") (spec.tried (place_of mutex.now)))) }
+{
+    put(out, b"if (pthread_mutex_trylock(&")?;
+    place(out, alloc, mutex)?;
+    put(out, b") == 0) ")?;
     Ok(())
 }
 
@@ -69,12 +79,12 @@ fn deeper(alloc: Global, margin: &[u8]) -> Result<Vec<u8>, AllocError>
     Ok(blanks)
 }
 
-/// Whether this is exactly one `if`.
+/// Whether this is exactly one `if`, which may be over a trylock.
 fn is_chain(ss: &[Stmt]) -> bool
     ensures { result ≡ spec.is_chain (bare_stmts (stmts_of ss.now)) }
 {
     match ss {
-        [only] => matches!(only.act, Act::If { .. }),
+        [only] => matches!(only.act, Act::If { .. } | Act::TryLock { .. }),
         _ => false,
     }
 }
@@ -150,6 +160,12 @@ fn statement(
             head(out, alloc, b"if", test)?;
             block(out, alloc, kind, margin, then_arm.as_slice())?;
             otherwise(out, alloc, kind, margin, else_arm.as_slice())?;
+            Ok(())
+        }
+        Act::TryLock { place, taken, busy } => {
+            try_head(out, alloc, place)?;
+            block(out, alloc, kind, margin, taken.as_slice())?;
+            otherwise(out, alloc, kind, margin, busy.as_slice())?;
             Ok(())
         }
         Act::While { test, body } => {

@@ -2,9 +2,11 @@ pub mod Lists
 pub mod Shorter
 pub mod Turns
 pub mod Sounds
+pub mod OneAhead
 pub mod Viable
 pub mod Exact
 pub mod Found
+pub mod Calm
 pub mod Whole
 pub mod Exactness
 pub mod RunningWords

@@ -18,7 +18,7 @@ use Rattle.c_declarations.specs.declared.tree.Head.{Head}
 use Rattle.c_declarations.specs.declared.tree.Begun.{Begun}
 use Rattle.c_declarations.specs.declared.tree.Begun.TheVariants as begun
 use Rattle.c_declarations.specs.Parsers.{line}
-use Rattle.c_declarations.proofs.Shorter.{less_behind_int, less_behind_void, less_objects}
+use Rattle.c_declarations.proofs.Shorter.{less_behind_int, less_behind_void, less_objects, less_wait_declared}
 use Rattle.c_simple.specs.Words.{number_of}
 use Rattle.c_statements.specs.Parsers.{body, slot_list, slot_length, length_by, slot_behind, more_slots}
 use Rattle.c_statements.proofs.Shorter.{body_shrinks, comma_shrinks}
@@ -67,7 +67,7 @@ module _ {Token : Type 0} (v : Sight Token) where
   less_finished : (room : ℕ) (p : Tall Program) (x : Begun) → Sound (finished v room p x) Less
   less_finished room p (begun.Cells all) = less_pure
   less_finished room p (begun.Head h) = less_added room p h
-  less_finished room p (begun.Capacities c) = less_pure
+  less_finished room p (begun.Capacities c) = less_bind (less_wait_declared v) (λ x. less_pure)
 
   pub less_ints : (holds : ℕ → Bool) (room : ℕ) (first : Bool) (l : ℕ) (p : Tall Program) → Sound (ints_added v holds room first l p) Less
   unfolding ints_added

@@ -29,7 +29,8 @@ use Rattle.c_declarations.specs.Parsers.{line}
 use Rattle.c_declarations.specs.Shown.{sort_of, capacities_of, head_of}
 use Rattle.c_declarations.specs.Spelled.{SpellsBehindInt}
 use Rattle.c_declarations.proofs.Tokens.{sign_at, seen_at}
-use Rattle.c_declarations.proofs.Sounds.{behind_int_sound, behind_void_sound, objects_sound}
+use Rattle.c_declarations.proofs.Sounds.{behind_int_sound, behind_void_sound, objects_sound, wait_declared_sound}
+use Rattle.c_declarations.proofs.Waits.{with_wait}
 use Rattle.c_fronts.specs.Fronts.{is_plain, all_plain, Takes}
 use Rattle.c_fronts.proofs.Put.{takes}
 use Rattle.c_fronts.proofs.Statements.{slots_taken}
@@ -132,7 +133,7 @@ module _ {Token : Type 0} (v : Sight Token) (room : ℕ) where
       finished_sound : (l : ℕ) (x : Begun) → Sound (finished v room p x) (λ mid rest q. (ts : List Token) → SpellsBehindInt false l (items v ts) (items v mid) x → Grows room p (pre (fixed l w.Int ∷ items v ts)) (items v rest) q)
       finished_sound l (begun.Cells all) = pure_sound (λ mid ts y. subst (λ (z : Ints). Grows room p (pre (fixed l w.Int ∷ items v ts)) (items v mid) (with_ints p z)) y.1.2 (by_cells (g.cells (static (fixed l w.Int ∷ items v ts)) y.1.1)))
       finished_sound l (begun.Head h) = sound_map (λ mid rest q f ts y. f (fixed l w.Int ∷ items v ts) y) (added_sound h)
-      finished_sound l (begun.Capacities c) = pure_sound (λ mid ts y. absurd (differs y.0))
+      finished_sound l (begun.Capacities c) = record { spelled = λ mid q rest e ts y. absurd (differs y.0) }
         where
           differs : false ≡ true → ⊥
           differs e = cc
@@ -270,7 +271,7 @@ module _ {Token Definitions : Type 0} (views : Views Token Definitions) where
         first_finished l (begun.Cells all) = pure_sound (λ mid ts y.
             inl (subst (λ (z : Ints). Grows room (empty_program end) (fixed l w.Int ∷ items v0 ts) (items v0 mid) (with_ints (empty_program end) z)) y.1.2 (by_cells (g.cells st.absent y.1.1))))
         first_finished l (begun.Head h) = sound_map (λ mid rest q f ts y. inl (f (fixed l w.Int ∷ items v0 ts) y)) (added_sound v0 room (empty_program end) (λ y. y) (λ y. st.absent) h)
-        first_finished l (begun.Capacities c) = pure_sound (λ mid ts y. inr (capacities_of c, y.1, refl))
+        first_finished l (begun.Capacities c) = bind_sound (wait_declared_sound v0) (λ x. pure_sound (λ rest mid z ts y. inr (capacities_of c, with_wait y.1 z, refl)))
 
         first_ints : (l : ℕ) → Sound (ints_added v0 views.holds room true l (empty_program end)) (λ mid rest q. First (fixed l w.Int ∷ items v0 mid) (items v0 rest) q)
         unfolding ints_added

@@ -2,12 +2,11 @@
 use Rattle.std.proofs.Common.{◌≡◌, ℕ, ◌<◌, Bool, true, false, List, [], ◌∷◌, length, refl}
 use Rattle.parse_laws.specs.Parser.{Got, Stop, and_then, refuse, commit, and_go, when, loop, pure}
 use Rattle.parse_laws.proofs.Loops.{loop_next, loop_stops, loop_ends, choice_shorter}
-use Rattle.c_expressions.specs.Parsers.{Sight, seen}
-use Rattle.c_declarations.specs.Parsers.{line}
+use Rattle.c_expressions.specs.Parsers.{seen}
 use Rattle.c_programs.specs.declared.token.Opening.{Opening}
 use Rattle.c_programs.specs.declared.token.Opening.TheVariants as o
 use Rattle.c_programs.specs.Words.{outer_opening, goes}
-use Rattle.c_programs.specs.Parsers.{Views, Reading, read, turn_by, turn, outer_by, outer_comes, static_added}
+use Rattle.c_programs.specs.Parsers.{Views, Reading, read, turn_by, turn, outer_comes, static_added}
 use Rattle.c_programs.proofs.Shorter.{turn_shrinks}
 
 module _ {Token Definitions : Type 0} (views : Views Token Definitions) (room : ℕ) where

@@ -1,5 +1,5 @@
 -- Programs that are spelled, by the definitions that stand before each token, are read.
-use Rattle.std.proofs.Common.{◌≡◌, ℕ, ◌≤◌, true, List, [], ◌∷◌, ◌++◌, map, length, refl, sym, ap, subst, ◌∙◌, inl, inr, ◌⊎◌, length-append, arith}
+use Rattle.std.proofs.Common.{◌≡◌, ℕ, ◌≤◌, true, false, List, [], ◌∷◌, ◌++◌, map, length, refl, sym, ap, subst, ◌∙◌, inl, inr, ◌⊎◌, length-append, arith}
 use Rattle.std.proofs.lemmas.List.{map-append, length-map}
 use Rattle.c_tree.specs.Lined.{Program}
 use Rattle.c_tree.specs.declared.program.Slot.{Slot}
@@ -17,8 +17,9 @@ use Rattle.c_grammar.specs.Declarations.{SpellsCapacities}
 use Rattle.parse_laws.proofs.Finds.{parted, pure_finds, bind_finds}
 use Rattle.c_declarations.specs.declared.tree.Capacities.{Capacities}
 use Rattle.c_declarations.specs.declared.tree.Begun.TheVariants as begun
-use Rattle.c_declarations.specs.Parsers.{behind_int}
-use Rattle.c_declarations.proofs.FoundHeads.{behind_int_finds}
+use Rattle.c_declarations.specs.Parsers.{behind_int, wait_comes, wait_declared}
+use Rattle.c_declarations.proofs.FoundHeads.{behind_int_finds, wait_declared_finds}
+use Rattle.c_declarations.proofs.Waits.{wait_apart}
 use Rattle.c_fronts.proofs.Put.{takes}
 use Rattle.c_fronts.proofs.Outer.{capacities_taken}
 use Rattle.parse_laws.specs.Parser.{Outcome, Got, Failed, Parser, and_then, ◌>>=◌, pure, Move, Stop, Go, and_go, loop}
@@ -37,6 +38,7 @@ use Rattle.c_programs.specs.Parsers.{Views, Reading, read, finished, ints_added,
 use Rattle.c_programs.proofs.Shorter.{turn_shrinks}
 use Rattle.c_programs.proofs.Sounds.{Grows, grows_takes, running, first_plain, Fronts, FirstFronts, by_cells, by_objects, by_slots, by_function, opening_int}
 use Rattle.c_programs.proofs.Found.{grows_read}
+use Rattle.c_programs.proofs.Calm.{comes_alike, nothing_waits}
 
 -- capacities as the parser has them
 abbrev kept : g.Capacities → Capacities
@@ -275,24 +277,27 @@ module _ {Token Definitions : Type 0} (views : Views Token Definitions) (still :
     abbrev v0 : Sight Token
     v0 = views.sight views.none
 
-    capacities_read : (end : ℕ) (l : ℕ) (before after : List Item) (c : g.Capacities) → SpellsCapacities (fixed l w.Int ∷ before) after c → F v0 (ints_added v0 views.holds room true l (empty_program end)) before after (capacity_program end c)
+    capacities_read : (end : ℕ) (l : ℕ) (before after : List Item) (c : g.Capacities) → SpellsCapacities (fixed l w.Int ∷ before) after c → ((rest : List Token) → map v0.item rest ≡ after → wait_comes v0 rest ≡ false)
+        → F v0 (ints_added v0 views.holds room true l (empty_program end)) before after (capacity_program end c)
     unfolding ints_added
-    capacities_read end l before after c d =
-        bind_finds v0.item (behind_int v0 views.holds true l) (λ x. finished v0 room (empty_program end) x) before after after (begun.Capacities (kept c)) (capacity_program end c)
-        (behind_int_finds v0 views.holds all_hold true l before after (begun.Capacities (kept c)) (refl, d)) (pure_finds v0.item after (capacity_program end c))
+    capacities_read end l before after c d calm =
+        let y = wait_apart d in
+        bind_finds v0.item (behind_int v0 views.holds true l) (λ x. finished v0 room (empty_program end) x) before y.0 after (begun.Capacities (kept c)) (capacity_program end c)
+        (behind_int_finds v0 views.holds all_hold true l before y.0 (begun.Capacities (kept c)) (refl, y.1))
+        (bind_finds v0.item (wait_declared v0) (λ _. pure (capacity_program end c)) y.0 after after tt (capacity_program end c) (wait_declared_finds v0 y.0 after y.2 calm) (pure_finds v0.item after (capacity_program end c)))
 
     capacities_front : {before after : List Item} {c : g.Capacities} → SpellsCapacities before after c → (l : ℕ) × (mid : List Item) × (before ≡ fixed l w.Int ∷ mid)
-    capacities_front (g.capacities {l = l} x y z) = (l, _, refl)
+    capacities_front (g.capacities {l = l} x y z p) = (l, _, refl)
 
-    first_capacities : (end : ℕ) (ts : List Token) (mid : List Item) (c : g.Capacities) → SpellsCapacities (running views views.none ts) mid c → (rest : List Token) × (running views views.none rest ≡ mid) × (first_part views room (empty_program end) ts ≡ Got (capacity_program end c) rest)
-    first_capacities end ts mid c x =
+    first_capacities : (end : ℕ) (ts : List Token) (mid : List Item) (c : g.Capacities) → SpellsCapacities (running views views.none ts) mid c → ((rest : List Token) → running views views.none rest ≡ mid → wait_comes v0 rest ≡ false) → (rest : List Token) × (running views views.none rest ≡ mid) × (first_part views room (empty_program end) ts ≡ Got (capacity_program end c) rest)
+    first_capacities end ts mid c x calm =
         let k = takes (capacities_taken x) in
         let y = split views.none k.front ts mid k.plain k.parts in
         let same : k.front ++ items v0 y.rest ≡ items v0 ts = ap (λ (f : List Item). f ++ items v0 y.rest) (sym y.seen_so) ∙ sym (map-append v0.item y.taken y.rest) ∙ ap (items v0) (sym y.parts) in
         let d = subst (λ (b : List Item). SpellsCapacities b (items v0 y.rest) c) same (k.again (items v0 y.rest)) in
         let f = capacities_front d in
         let t = parted v0.item ts (fixed f.0 w.Int) f.1 f.2 in
-        let z = capacities_read end f.0 f.1 (items v0 y.rest) c (subst (λ (b : List Item). SpellsCapacities b (items v0 y.rest) c) f.2 d) t.1 t.4 in
+        let z = capacities_read end f.0 f.1 (items v0 y.rest) c (subst (λ (b : List Item). SpellsCapacities b (items v0 y.rest) c) f.2 d) (λ rest e. comes_alike v0 rest y.rest e ∙ calm y.rest y.left) t.1 t.4 in
         (y.rest, y.left, done t.0 t.1 f.0 y.taken y.rest t.2 y.parts t.3 z)
       where
         opens : (u : Token) (l : ℕ) → v0.item u ≡ fixed l w.Int → outer_opening (seen v0 u) ≡ o.Int
@@ -318,4 +323,4 @@ module _ {Token Definitions : Type 0} (views : Views Token Definitions) (still :
     -- every program that is spelled, within its levels, is read
     pub program_found : (end : ℕ) (ts : List Token) (p : Tall Program) → SpellsProgram end (running views views.none ts) p → p.levels ≤ room → program views room end ts ≡ Got p []
     program_found end ts p (programs.plain d) le = plain_found end ts p d le
-    program_found end ts p (programs.with_capacities {mid = mid} {c = c} x d) le = let y = first_capacities end ts mid c x in let z = behind_reach d le y.0 y.1 in after_capacities end ts p y.0 (capacity_program end c) z.0 z.1 y.2 (no_tokens z.0 z.1 z.2) z.3
+    program_found end ts p (programs.with_capacities {mid = mid} {c = c} x d) le = let y = first_capacities end ts mid c x (nothing_waits views still d) in let z = behind_reach d le y.0 y.1 in after_capacities end ts p y.0 (capacity_program end c) z.0 z.1 y.2 (no_tokens z.0 z.1 z.2) z.3

@@ -33,4 +33,15 @@ word_offers defined = record {
 -- where nothing is defined, the words of the capacities can come
 pub word_capacities : CapacityWords (word_sight []) (words_of [])
 unfolding word
-word_capacities = ((word Kind.name (spelling w.Void), refl), (word Kind.name (spelling w.Int), refl), (word Kind.name (spelling w.Parameter), refl), (word Kind.name (spelling w.Take), refl), (word Kind.name (spelling w.Give), refl))
+word_capacities = (
+  (word Kind.name (spelling w.Void), refl),
+  (word Kind.name (spelling w.Int), refl),
+  (word Kind.name (spelling w.Parameter), refl),
+  (word Kind.name (spelling w.Take), refl),
+  (word Kind.name (spelling w.Give), refl),
+  (word Kind.name (spelling w.ControlledWait), refl),
+  (word Kind.name (spelling w.Condition), refl),
+  (word Kind.name (spelling w.ConditionParameter), refl),
+  (word Kind.name (spelling w.Mutex), refl),
+  (word Kind.name (spelling w.MutexParameter), refl),
+)

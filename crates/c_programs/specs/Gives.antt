@@ -1,5 +1,5 @@
 -- What the functions of this crate ensure: what they answer is what a parser over their tokens reads.
-use Rattle.std.specs.Prelude.{ℕ, Bool, true, false, ◌||◌, List, Result, Option, Some, None}
+use Rattle.std.specs.Prelude.{ℕ, true, false, ◌||◌, List, Result, Option, Some, None}
 use denote.Ref.{Bor}
 use Rattle.c_tree.specs.declared.program.Program as shown_program
 use Rattle.c_tree.specs.Lined.{Program, program_of, function_of}

@@ -21,7 +21,7 @@ use Rattle.c_declarations.specs.declared.tree.Capacities.{Capacities}
 use Rattle.c_declarations.specs.declared.tree.Head.{Head}
 use Rattle.c_declarations.specs.declared.tree.Begun.{Begun}
 use Rattle.c_declarations.specs.declared.tree.Begun.TheVariants as begun
-use Rattle.c_declarations.specs.Parsers.{line, behind_int, head_behind_void, objects}
+use Rattle.c_declarations.specs.Parsers.{line, behind_int, head_behind_void, objects, wait_declared}
 use Rattle.c_declarations.specs.Shown.{sort_of, head_of}
 use Rattle.c_statements.specs.Parsers.{body, slot_list}
 use Rattle.c_programs.specs.declared.token.Opening.{Opening}
@@ -67,7 +67,7 @@ function_added v room p h = function_behind v room h >>= λ f. pure (with_functi
 abbrev pub finished : {Token : Type 0} → Sight Token → ℕ → Tall Program → Begun → Parser Token (Tall Program)
 finished v room p (begun.Cells all) = pure (with_ints p all)
 finished v room p (begun.Head h) = function_added v room p h
-finished v room p (begun.Capacities c) = pure (with_capacities p c)
+finished v room p (begun.Capacities c) = wait_declared v >>= λ _. pure (with_capacities p c)
 
 -- behind `int`, on its line l; `first` where nothing stands before it
 unfoldable pub ints_added : {Token : Type 0} → Sight Token → (ℕ → Bool) → ℕ → Bool → ℕ → Tall Program → Parser Token (Tall Program)

@@ -17,6 +17,7 @@ use c_declarations::function::head_behind_void;
 use c_declarations::object::objects;
 use c_declarations::token::Read;
 use c_declarations::tree::{Begun, Head, Sort};
+use c_declarations::wait::wait_declared;
 use c_expressions::tall::Tall;
 use c_expressions::token::{Marked, Setting};
 use c_statements::slot::slot_list;
@@ -59,7 +60,10 @@ fn finished<'a>(
     match begun {
         Begun::Cells(all) => Ok((with_ints(program, all)?, tokens)),
         Begun::Head(head) => function_added(alloc, setting, room, program, head, tokens),
-        Begun::Capacities(capacities) => Ok((with_capacities(program, capacities), tokens)),
+        Begun::Capacities(capacities) => {
+            let (_, rest) = wait_declared(setting, tokens)?;
+            Ok((with_capacities(program, capacities), rest))
+        }
     }
 }
 

@@ -26,6 +26,7 @@ copies_are_named_in_any_mode = record {
   of_copy = refl;
   of_main = (refl, refl);
   of_copied_main = (refl, refl);
+  of_long_name = refl;
   of_keyword = (refl, refl);
   of_later_word = refl;
   of_library = (refl, refl);
@@ -37,6 +38,8 @@ monitors_are_of_the_tool = record {
   capacities = refl;
   take = refl;
   give = refl;
+  wait = refl;
+  wait_with_takes = refl;
   of_any = refl;
 }
 

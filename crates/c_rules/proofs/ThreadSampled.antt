@@ -54,6 +54,8 @@ objects_are_initialised_early = record {
   in_loop = (refl, refl);
   in_thread = (refl, refl);
   behind_lock = (refl, refl);
+  behind_trylock = (refl, refl);
+  in_taken_arm = (refl, refl);
   behind_create = (refl, refl);
   behind_call = (refl, refl);
   behind_inner = (refl, refl);
@@ -70,5 +72,8 @@ ranges_are_not_empty = record {
   capacity_len = refl;
   take = refl;
   give = refl;
+  wait_takes = refl;
+  wait_of_last = refl;
+  without_monitors = refl;
   last = refl;
 }

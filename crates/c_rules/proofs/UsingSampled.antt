@@ -16,6 +16,7 @@ names_are_in_scope = record {
   in_its_value = (refl, refl);
   behind_its_list = (refl, refl);
   in_other_arm = (refl, refl);
+  in_busy_arm = (refl, refl);
   in_inner_list = (refl, refl);
   of_loop = (refl, refl);
   behind_its_loop = (refl, refl);
@@ -34,6 +35,7 @@ misuses_are_wrong_kinds = record {
   index_on_mutex = (refl, refl);
   mutex_as_condition = (refl, refl);
   condition_as_mutex = (refl, refl);
+  condition_as_mutex_tried = (refl, refl);
   function_as_int = (refl, refl);
   int_as_function = (refl, refl);
   call_of_thread = (refl, refl);
@@ -49,6 +51,7 @@ pub uses_fit : Uses
 uses_fit = record {
   of_ints = (refl, refl);
   of_objects = (refl, refl);
+  of_trylock = (refl, refl);
   of_functions = (refl, refl);
 }
 

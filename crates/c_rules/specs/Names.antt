@@ -1,5 +1,5 @@
 -- Names that are kept for the tool, for POSIX threads and for the library.
-use Rattle.std.specs.Prelude.{ℕ, zero, suc, nat_eq, nat_le, nat_lt, Bool, true, false, not, ◌&&◌, ◌||◌, if◌then◌else◌, List, [], ◌∷◌, length, drop, map, codes, bytes_eq, is_some, option_map, Some, None}
+use Rattle.std.specs.Prelude.{ℕ, zero, suc, nat_eq, nat_lt, Bool, true, false, not, ◌&&◌, ◌||◌, if◌then◌else◌, List, [], ◌∷◌, length, drop, map, codes, bytes_eq, is_some, option_map, Some, None}
 use Rattle.std.specs.declared.option.Option.{Option}
 use Rattle.std.specs.Option.{option_map_or}
 use Rattle.std.specs.List.{list_any, list_all, starts_with}
@@ -35,10 +35,10 @@ original (b ∷ bs) = if is_copy_end (b ∷ bs) then Some [] else option_map (λ
 abbrev pub is_keyword : List ℕ → Bool
 is_keyword name = mentions other_keywords name || mentions (map spelling fixed_keywords) name
 
--- a name that isn't a keyword: at most 63 letters, digits and `_`, and no digit first
+-- a name that isn't a keyword: letters, digits and `_`, and no digit first; however long
 abbrev pub is_plain_name : List ℕ → Bool
 is_plain_name [] = false
-is_plain_name (b ∷ bs) = is_letter b && list_all (λ c. is_letter c || is_digit c) bs && nat_le (length (b ∷ bs)) 63 && not (is_keyword (b ∷ bs))
+is_plain_name (b ∷ bs) = is_letter b && list_all (λ c. is_letter c || is_digit c) bs && not (is_keyword (b ∷ bs))
 
 -- a name that a program can't declare
 abbrev pub is_reserved : List ℕ → Bool

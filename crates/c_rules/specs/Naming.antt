@@ -3,7 +3,7 @@ use Rattle.std.specs.Prelude.{ℕ, nat_lt, max, Bool, true, false, not, ◌||◌
 use Rattle.c_tree.specs.declared.program.Mode.{Mode}
 use Rattle.c_tree.specs.declared.program.Mode.TheVariants as mode
 use Rattle.c_tree.specs.Lined as lined
-use Rattle.c_tree.specs.Lined.{Stmt, Program, Declare, Take, Give}
+use Rattle.c_tree.specs.Lined.{Stmt, Program, Declare, Wait, Take, Give}
 use Rattle.c_rules.specs.Names.{mentions, is_reserved, is_function_name}
 use Rattle.c_rules.specs.Declarations.{Declaration, Thing, Function, outer, named}
 use Rattle.c_rules.specs.Sites.{sites, lines_where}
@@ -43,13 +43,14 @@ is_taken_for mode name thing = is_reserved name
 abbrev pub calls_monitor : Stmt → Bool
 calls_monitor (Take line monitor) = true
 calls_monitor (Give line monitor) = true
+calls_monitor (Wait line cond mutex takes) = nat_lt 0 (length takes)
 calls_monitor s = false
 
 -- the line of the capacities, where there are any
 abbrev pub capacity_lines : Program → List ℕ
 capacity_lines p = if nat_lt 0 (length p.monitors) || nat_lt 0 p.cap_len then p.cap_line ∷ [] else []
 
--- programs of users have no capacities and take and give nothing
+-- programs of users have no capacities, take and give nothing, and no wait of theirs takes anything
 abbrev pub monitor_lines : Mode → Program → List ℕ
 monitor_lines mode.Any p = []
 monitor_lines mode.Source p = capacity_lines p ++ lines_where (λ site. calls_monitor site.stmt) p

@@ -1,11 +1,11 @@
 -- Samples of reserved, long and repeated names.
-use Rattle.std.specs.Prelude.{◌≡◌, ℕ, List, [], ◌∷◌, codes, replicate, Some, None}
+use Rattle.std.specs.Prelude.{◌≡◌, ℕ, List, [], ◌∷◌, ◌++◌, codes, replicate, Some, None}
 use Rattle.c_tree.specs.declared.program.Kind.TheVariants as kind
 use Rattle.c_tree.specs.declared.program.Mode.TheVariants as mode
 use Rattle.c_tree.specs.Expressions.{Number}
-use Rattle.c_tree.specs.Lined.{Stmt, Nil, Declare, While, For, Take, Give, Program}
+use Rattle.c_tree.specs.Lined.{Stmt, Nil, Declare, While, For, Wait, Take, Give, Program}
 use Rattle.c_rules.specs.declared.rule.Rule.TheVariants.{Reserved, LongName, Twice}
-use Rattle.c_rules.specs.Samples.{Only, at, all_breaks, cell, statements, function, base, with_run, with_functions, with_monitors}
+use Rattle.c_rules.specs.Samples.{Only, at, all_breaks, cell, statements, function, base, single, with_run, with_functions, with_monitors}
 
 abbrev pub int_named : List ℕ → Program
 int_named name = record base { ints = cell (codes "x") 2 ∷ cell name 8 ∷ [] }
@@ -39,6 +39,7 @@ pub record CopyNames : Type 0 where
   pub of_copied_main : Only (function_named (codes "main_gd1_gd2")) (at Reserved 12 ∷ [])
   pub of_keyword : Only (function_named (codes "int_gd1")) (at Reserved 12 ∷ [])
   pub of_later_word : all_breaks (function_named (codes "bool_gd1")) mode.Any ≡ []
+  pub of_long_name : all_breaks (function_named (replicate 64 120 ++ codes "_gd1")) mode.Any ≡ []
   pub of_library : Only (function_named (codes "printf_gd1")) (at Reserved 12 ∷ [])
   pub of_nothing : Only (function_named (codes "_gd1")) (at Reserved 12 ∷ [])
 
@@ -47,6 +48,8 @@ pub record KeptMonitors : Type 0 where
   pub capacities : all_breaks (with_monitors base 1 (2 ∷ [])) mode.Source ≡ at Reserved 1 ∷ []
   pub take : all_breaks (with_monitors (with_run (Take 31 0 ∷ [])) 1 (2 ∷ [])) mode.Source ≡ at Reserved 1 ∷ at Reserved 31 ∷ []
   pub give : all_breaks (with_monitors (with_run (Give 31 0 ∷ [])) 1 (2 ∷ [])) mode.Source ≡ at Reserved 1 ∷ at Reserved 31 ∷ []
+  pub wait : all_breaks (with_run (Wait 31 (single (codes "c")) (single (codes "a")) [] ∷ [])) mode.Source ≡ []
+  pub wait_with_takes : all_breaks (with_monitors (with_run (Wait 31 (single (codes "c")) (single (codes "a")) (0 ∷ []) ∷ [])) 1 (2 ∷ [])) mode.Source ≡ at Reserved 1 ∷ at Reserved 31 ∷ []
   pub of_any : all_breaks (with_monitors (with_run (Take 31 0 ∷ Give 32 0 ∷ [])) 1 (2 ∷ [])) mode.Any ≡ []
 
 -- a function's name has at most 56 characters, in programs of users

@@ -4,7 +4,7 @@ use Rattle.std.specs.List.{list_any}
 use Rattle.c_tree.specs.declared.program.Array as declared_array
 use Rattle.c_tree.specs.declared.program.Object.{Object}
 use Rattle.c_tree.specs.declared.program.Slot.{Slot}
-use Rattle.c_tree.specs.Lined.{Stmt, Program, Call, Create, Join, InitMutex, InitCond, Lock, Unlock, Wait, Signal, Broadcast, Take, Give}
+use Rattle.c_tree.specs.Lined.{Stmt, Program, Call, Create, Join, InitMutex, InitCond, Lock, TryLock, Unlock, Wait, Signal, Broadcast, Take, Give}
 use Rattle.c_rules.specs.Sites.{inside, lines_where, is_main}
 use Rattle.c_rules.specs.Naming.{capacity_lines}
 
@@ -15,8 +15,9 @@ abbrev pub is_active : Stmt → Bool
 is_active (Create line slot function arg) = true
 is_active (Join line slot) = true
 is_active (Lock line place) = true
+is_active (TryLock line place taken busy) = true
 is_active (Unlock line place) = true
-is_active (Wait line cond mutex) = true
+is_active (Wait line cond mutex takes) = true
 is_active (Signal line cond) = true
 is_active (Broadcast line cond) = true
 is_active (Call line target function args) = true
@@ -50,13 +51,14 @@ has_no_slot t = unwrap_or t.len 1 == 0
 abbrev pub empty_capacity_lines : Program → List ℕ
 empty_capacity_lines p = if (p.cap_len == 0) || list_any (λ capacity. capacity == 0) p.monitors then capacity_lines p else []
 
--- a take or give of a monitor that isn't there
+-- a take, a give or a wait's take of a monitor that isn't there
 abbrev pub is_beyond : Program → Stmt → Bool
 is_beyond p (Take line monitor) = nat_le (length p.monitors) monitor
 is_beyond p (Give line monitor) = nat_le (length p.monitors) monitor
+is_beyond p (Wait line cond mutex takes) = list_any (nat_le (length p.monitors)) takes
 is_beyond p s = false
 
--- a declared length or a capacity is 0, or a take or give names a monitor that isn't there
+-- a declared length or a capacity is 0, or a take, a give or a wait's take names a monitor that isn't there
 abbrev pub out_of_range : Program → List ℕ
 out_of_range p =
     map (λ a. a.line) (filter has_no_member p.arrays) ++ map (λ o. o.line) (filter has_no_object (p.mutexes ++ p.conds))

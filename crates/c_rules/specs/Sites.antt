@@ -2,7 +2,7 @@
 use Rattle.std.specs.Prelude.{ℕ, Bool, true, false, List, [], ◌∷◌, ◌++◌, map, filter, flat_map, bytes_eq}
 use Rattle.std.specs.List.{enumerate_from}
 use Rattle.c_tree.specs.Numbering.{main_name}
-use Rattle.c_tree.specs.Lined.{Stmt, Stmts, Nil, Cons, Declare, If, While, For, Function, Program, line_of}
+use Rattle.c_tree.specs.Lined.{Stmt, Stmts, Nil, Cons, Declare, If, While, For, TryLock, Function, Program, line_of}
 
 -- the local that a statement declares for those behind it in its list
 abbrev pub declared : Stmt → List (List ℕ)
@@ -26,6 +26,7 @@ abbrev mutual
   inside scope (While line test body) = listed scope body
   inside scope (For line first_part test step body) =
       listed scope first_part ++ listed (locals_of first_part ++ scope) step ++ listed (locals_of first_part ++ scope) body
+  inside scope (TryLock line place taken busy) = listed scope taken ++ listed scope busy
   inside scope s = []
 
   -- the statements of a list, each behind those inside it

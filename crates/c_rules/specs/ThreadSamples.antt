@@ -4,7 +4,7 @@ use Rattle.c_tree.specs.declared.program.Kind.TheVariants as kind
 use Rattle.c_tree.specs.declared.program.Mode.TheVariants as mode
 use Rattle.c_tree.specs.declared.expr.Op.TheVariants.{Add, And, Div}
 use Rattle.c_tree.specs.Expressions.{Expr, Number, Minus, Binary, Place}
-use Rattle.c_tree.specs.Lined.{Stmt, Nil, Call, If, While, Create, Join, InitMutex, InitCond, Lock, Signal, Take, Give, Program}
+use Rattle.c_tree.specs.Lined.{Stmt, Nil, Call, If, While, Create, Join, InitMutex, InitCond, Lock, TryLock, Wait, Signal, Take, Give, Program}
 use Rattle.c_rules.specs.declared.rule.Rule.TheVariants.{NoMain, CreateNotFixed, JoinNotFixed, ArgNotConstant, InitLate, IndexRange, WrongCount}
 use Rattle.c_rules.specs.Samples.{Only, at, all_breaks, array, unready, slot, single, member, statements, expressions, value, function, set_x, add, clear, run_of, base, with_run, with_main, with_monitors}
 
@@ -81,10 +81,16 @@ pub record Initialisations : Type 0 where
   pub in_loop : Only (begins_with (While 41 (Number 1) (statements (init 42 ∷ set_x 43 (Number 0) ∷ [])) ∷ Lock 44 (single (codes "a")) ∷ [])) []
   pub in_thread : Only (with_run (init 31 ∷ [])) (at InitLate 31 ∷ [])
   pub behind_lock : Only (begins_with (Lock 41 (single (codes "a")) ∷ init 42 ∷ [])) (at InitLate 42 ∷ [])
+  pub behind_trylock : Only (begins_with (TryLock 41 (single (codes "a")) Nil Nil ∷ init 42 ∷ [])) (at InitLate 42 ∷ [])
+  pub in_taken_arm : Only (begins_with (TryLock 41 (single (codes "a")) (statements (init 42 ∷ [])) Nil ∷ [])) (at InitLate 42 ∷ [])
   pub behind_create : Only (with_main (init 43 ∷ [])) (at InitLate 43 ∷ [])
   pub behind_call : Only (begins_with (Call 41 None (codes "clear") (expressions []) ∷ InitCond 42 (single (codes "c")) ∷ [])) (at InitLate 42 ∷ [])
   pub behind_inner : Only (begins_with (If 41 (Number 1) Nil (statements (Signal 42 (single (codes "c")) ∷ [])) ∷ init 43 ∷ [])) (at InitLate 43 ∷ [])
   pub beside_lock : Only (begins_with (While 41 (Number 1) (statements (init 42 ∷ Lock 43 (single (codes "a")) ∷ [])) ∷ [])) (at InitLate 42 ∷ [])
+
+-- `gd_cond_wait(&c, &a, takes, -1);`
+abbrev pub wait : ℕ → List ℕ → Stmt
+wait line takes = Wait line (single (codes "c")) (single (codes "a")) takes
 
 -- lengths, capacities and monitors
 pub record Ranges : Type 0 where
@@ -96,4 +102,7 @@ pub record Ranges : Type 0 where
   pub capacity_len : all_breaks (with_monitors base 0 (1 ∷ [])) mode.Any ≡ at WrongCount 1 ∷ at IndexRange 1 ∷ []
   pub take : all_breaks (with_monitors (with_run (Take 31 1 ∷ [])) 1 (1 ∷ [])) mode.Any ≡ at IndexRange 31 ∷ []
   pub give : all_breaks (with_monitors (with_run (Give 31 2 ∷ [])) 2 (1 ∷ 1 ∷ [])) mode.Any ≡ at IndexRange 31 ∷ []
+  pub wait_takes : all_breaks (with_monitors (with_run (wait 31 (0 ∷ 1 ∷ []) ∷ [])) 1 (1 ∷ [])) mode.Any ≡ at IndexRange 31 ∷ []
+  pub wait_of_last : all_breaks (with_monitors (with_run (wait 31 (1 ∷ 0 ∷ []) ∷ [])) 2 (1 ∷ 1 ∷ [])) mode.Any ≡ []
+  pub without_monitors : all_breaks (with_run (wait 31 (0 ∷ []) ∷ [])) mode.Any ≡ at IndexRange 31 ∷ []
   pub last : all_breaks (with_monitors (with_run (Take 31 1 ∷ Give 32 1 ∷ [])) 2 (1 ∷ 1 ∷ [])) mode.Any ≡ []

@@ -5,7 +5,7 @@ use Rattle.c_tree.specs.declared.program.Kind.{Kind}
 use Rattle.c_tree.specs.declared.program.Kind.TheVariants as kind
 use Rattle.c_tree.specs.Expressions.{Expr, Exprs, Number, Name, Element, Arg, Not, Minus, Binary, Place}
 use Rattle.c_tree.specs.Expressions as tree
-use Rattle.c_tree.specs.Lined.{Stmt, Declare, Assign, Call, If, While, For, Return, Read, Print, Create, Join, InitMutex, InitCond, Lock, Unlock, Wait, Signal, Broadcast, Take, Give}
+use Rattle.c_tree.specs.Lined.{Stmt, Declare, Assign, Call, If, While, For, Return, Read, Print, Create, Join, InitMutex, InitCond, Lock, TryLock, Unlock, Wait, Signal, Broadcast, Take, Give}
 use Rattle.c_rules.specs.declared.role.Role.{Role}
 use Rattle.c_rules.specs.declared.role.Role.TheVariants.{Value, Cast, OfMutex, OfCondition, OfThread, Start, Called}
 use Rattle.c_rules.specs.Declarations.{Thing, Scalar, Array, Mutex, Condition, Thread, Function, Local, Argument}
@@ -61,8 +61,9 @@ uses_of (Join line slot) = of_place OfThread slot
 uses_of (InitMutex line place) = of_place OfMutex place
 uses_of (InitCond line place) = of_place OfCondition place
 uses_of (Lock line place) = of_place OfMutex place
+uses_of (TryLock line place taken busy) = of_place OfMutex place
 uses_of (Unlock line place) = of_place OfMutex place
-uses_of (Wait line cond mutex) = of_place OfCondition cond ++ of_place OfMutex mutex
+uses_of (Wait line cond mutex takes) = of_place OfCondition cond ++ of_place OfMutex mutex
 uses_of (Signal line cond) = of_place OfCondition cond
 uses_of (Broadcast line cond) = of_place OfCondition cond
 uses_of (Take line monitor) = []

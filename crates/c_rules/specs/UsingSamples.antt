@@ -3,7 +3,7 @@ use Rattle.std.specs.Prelude.{◌≡◌, ℕ, pos, List, [], ◌∷◌, codes, S
 use Rattle.c_tree.specs.declared.program.Kind.TheVariants as kind
 use Rattle.c_tree.specs.declared.program.Mode.TheVariants as mode
 use Rattle.c_tree.specs.Expressions.{Expr, Number, Element, Arg, Minus}
-use Rattle.c_tree.specs.Lined.{Stmt, Nil, Declare, Assign, Call, If, While, For, Read, Print, Create, InitCond, Lock, Unlock, Wait, Signal, Broadcast}
+use Rattle.c_tree.specs.Lined.{Stmt, Nil, Declare, Assign, Call, If, While, For, Read, Print, Create, InitCond, Lock, TryLock, Unlock, Wait, Signal, Broadcast}
 use Rattle.c_rules.specs.declared.rule.Rule.TheVariants.{Unknown, WrongKind, WrongCount, Recursion, InitLate}
 use Rattle.c_rules.specs.Samples.{Only, at, all_breaks, array, ready, single, member, statements, expressions, value, function, set_x, base, with_run, with_main, with_functions, with_monitors}
 
@@ -32,6 +32,7 @@ pub record ScopedNames : Type 0 where
   pub in_its_value : Only (with_run (Declare 31 (codes "i") (Some (value (codes "i"))) ∷ [])) []
   pub behind_its_list : Only (with_run (If 31 (Number 1) (statements (local 32 (codes "i") ∷ [])) Nil ∷ set_x 33 (value (codes "i")) ∷ [])) (at Unknown 33 ∷ [])
   pub in_other_arm : Only (with_run (If 31 (Number 1) (statements (local 32 (codes "i") ∷ [])) (statements (set_x 33 (value (codes "i")) ∷ [])) ∷ [])) (at Unknown 33 ∷ [])
+  pub in_busy_arm : Only (with_run (TryLock 31 (single (codes "a")) (statements (local 32 (codes "i") ∷ [])) (statements (set_x 33 (value (codes "i")) ∷ [])) ∷ [])) (at Unknown 33 ∷ [])
   pub in_inner_list : Only (with_run (local 31 (codes "i") ∷ While 32 (Number 1) (statements (set_x 33 (value (codes "i")) ∷ [])) ∷ [])) []
   pub of_loop : Only (with_run (For 31 (statements (Declare 31 (codes "i") (Some (Number 0)) ∷ [])) (value (codes "i")) (statements (Assign 31 (single (codes "i")) (Number 1) ∷ [])) (statements (set_x 32 (value (codes "i")) ∷ [])) ∷ [])) []
   pub behind_its_loop : Only (with_run (For 31 (statements (Declare 31 (codes "i") (Some (Number 0)) ∷ [])) (Number 1) Nil Nil ∷ set_x 33 (value (codes "i")) ∷ [])) (at Unknown 33 ∷ [])
@@ -48,7 +49,8 @@ pub record Misuses : Type 0 where
   pub mutexes_without_index : Only (with_run (Unlock 31 (single (codes "m")) ∷ [])) (at WrongKind 31 ∷ [])
   pub index_on_mutex : Only (with_run (Lock 31 (member (codes "a") (Number 0)) ∷ [])) (at WrongKind 31 ∷ [])
   pub mutex_as_condition : Only (with_run (Signal 31 (single (codes "a")) ∷ [])) (at WrongKind 31 ∷ [])
-  pub condition_as_mutex : Only (with_run (Wait 31 (single (codes "c")) (single (codes "c")) ∷ [])) (at WrongKind 31 ∷ [])
+  pub condition_as_mutex : Only (with_run (Wait 31 (single (codes "c")) (single (codes "c")) [] ∷ [])) (at WrongKind 31 ∷ [])
+  pub condition_as_mutex_tried : Only (with_run (TryLock 31 (single (codes "c")) Nil Nil ∷ [])) (at WrongKind 31 ∷ [])
   pub function_as_int : Only (with_run (set_x 31 (value (codes "add")) ∷ [])) (at WrongKind 31 ∷ [])
   pub int_as_function : Only (with_run (call 31 (codes "x") [] ∷ [])) (at WrongKind 31 ∷ [])
   pub call_of_thread : Only (with_main (call 43 (codes "run") (Number 0 ∷ []) ∷ [])) (at WrongKind 43 ∷ [])
@@ -62,7 +64,8 @@ pub record Misuses : Type 0 where
 -- every use as what a name is
 pub record Uses : Type 0 where
   pub of_ints : Only (with_run (Declare 31 (codes "i") (Some (Arg (codes "arg"))) ∷ Assign 32 (member (codes "q") (value (codes "i"))) (Minus (value (codes "x"))) ∷ Read 33 (single (codes "i")) ∷ [])) []
-  pub of_objects : Only (with_run (Lock 31 (single (codes "a")) ∷ Wait 32 (single (codes "c")) (single (codes "a")) ∷ Unlock 33 (single (codes "a")) ∷ Lock 34 (member (codes "m") (value (codes "x"))) ∷ Signal 35 (single (codes "c")) ∷ Broadcast 36 (single (codes "c")) ∷ [])) []
+  pub of_objects : Only (with_run (Lock 31 (single (codes "a")) ∷ Wait 32 (single (codes "c")) (single (codes "a")) [] ∷ Unlock 33 (single (codes "a")) ∷ Lock 34 (member (codes "m") (value (codes "x"))) ∷ Signal 35 (single (codes "c")) ∷ Broadcast 36 (single (codes "c")) ∷ [])) []
+  pub of_trylock : Only (with_run (TryLock 31 (single (codes "a")) (statements (Unlock 32 (single (codes "a")) ∷ [])) (statements (set_x 33 (Number 1) ∷ [])) ∷ [])) []
   pub of_functions : Only (with_run (call 31 (codes "clear") [] ∷ call_into_x 32 (codes "add") (Number 1 ∷ []) ∷ call 33 (codes "add") (Number 1 ∷ []) ∷ [])) []
 
 -- numbers of arguments and of initial values

@@ -1,5 +1,5 @@
 -- Every simple statement and every step that is begun can be completed.
-use Rattle.std.proofs.Common.{◌≡◌, ℕ, zero, suc, max, ◌<◌, ◌≤◌, Bool, true, false, cond, List, [], ◌∷◌, Option, Some, None, refl, arith}
+use Rattle.std.proofs.Common.{◌≡◌, ℕ, zero, suc, max, ◌<◌, ◌≤◌, Bool, true, false, cond, List, [], ◌∷◌, ◌++◌, Option, Some, None, refl, arith}
 use Rattle.c_lexer.specs.declared.token.Sign.{Sign}
 use Rattle.c_lexer.specs.declared.token.Sign.TheVariants as signs
 use Rattle.c_tree.specs.declared.expr.Op.{Op}
@@ -35,8 +35,8 @@ use Rattle.c_simple.specs.declared.token.Way.TheVariants as way
 use Rattle.c_simple.specs.declared.token.Routine.{Routine}
 use Rattle.c_simple.specs.declared.token.Routine.TheVariants as routine
 use Rattle.c_simple.specs.Words.{way_of, counter, if_null, routine_by, routine_of, number_of, text_of}
-use Rattle.c_simple.specs.Parsers.{line, go_with, ended, Source, Value, Call, value, value_first, call_arguments, source_call, behind_callee, source_by, value_or_call, set_to, counted, set, set_value, change, assigned_by, assigned, stepped_by, stepped, count_first, bare, declared_as, declared_by_source, declared, declarator, one_more, comma_by, declarators, returned, value_returned, return_by, is_no_value_at, is_null_at, null_closed, addressed, initialised, joined, acting, wait, monitor, numbered, is_number_format_at, scan, printed, print_with, print_by, print_behind, print, created, create_argument, behind_function, create_function, create, library, call_behind_name, call_by, called_by, parenthesis_by, change_behind_name, simple_named, step_named, counted_by, begun_by, simple_begun, step_by, simple_by}
-use Rattle.c_simple.proofs.Shorter.{less_assigned_by, less_stepped_by, comma_shrinks}
+use Rattle.c_simple.specs.Parsers.{line, go_with, ended, Source, Value, Call, value, value_first, call_arguments, source_call, behind_callee, source_by, value_or_call, set_to, counted, set, set_value, change, assigned_by, assigned, stepped_by, stepped, count_first, bare, declared_as, declared_by_source, declared, declarator, one_more, comma_by, declarators, returned, value_returned, return_by, is_no_value_at, is_null_at, null_closed, addressed, initialised, joined, acting, wait, take_by, first_take, more_takes, is_one_at, takes_end, takes as wait_takes, controlled_wait, monitor, numbered, is_number_format_at, scan, printed, print_with, print_by, print_behind, print, created, create_argument, behind_function, create_function, create, library, call_behind_name, call_by, called_by, parenthesis_by, change_behind_name, simple_named, step_named, counted_by, begun_by, simple_begun, step_by, simple_by}
+use Rattle.c_simple.proofs.Shorter.{less_assigned_by, less_stepped_by, comma_shrinks, take_shrinks}
 
 -- ---- laws of rooms
 
@@ -51,11 +51,11 @@ deeper_by {k = k} {p = p} (suc m) deep go live h = takes p same (h m refl)
     same (suc s) le = go s
 
 -- a token that must come behind a part of which each value fits
-must_onward : {Token A C : Type 0} {small : ℕ → A → Bool} {fits : ℕ → C → Bool} {before ends : Token → Bool} {f : ℕ → A → Parser Token C} (is : Token → Bool) (w : Token) → is w ≡ true → before w ≡ true
-    → ((r : ℕ) (a : A) → small r a ≡ true → Completes fits ends r (λ s. f s a)) → (r : ℕ) → Onward small fits before ends r (λ s a. must is (f s a))
-must_onward {Token} {A} {C} {small} {fits} {before} {ends} {f} is w e b h r = record {
-  steady = λ a d. must_steady is (h r a d);
-  starts = λ s le a d. let y = (h s a d).live s (omega arith) in record { live = record { word = w ∷ y.word; value = y.value; reads = λ z q. rw e (y.reads z q) }; closes = λ z q. b };
+must_onward_from : {Token A C : Type 0} {small : ℕ → A → Bool} {fits : ℕ → C → Bool} {before ends : Token → Bool} {f : ℕ → A → Parser Token C} (is : Token → Bool) (w : Token) → is w ≡ true → before w ≡ true → (r : ℕ)
+    → ((s : ℕ) → r ≤ s → (a : A) → small s a ≡ true → Completes fits ends s (λ s. f s a)) → Onward small fits before ends r (λ s a. must is (f s a))
+must_onward_from {Token} {A} {C} {small} {fits} {before} {ends} {f} is w e b r h = record {
+  steady = λ a d. must_steady is (h r (omega arith) a d);
+  starts = λ s le a d. let y = (h s le a d).live s (omega arith) in record { live = record { word = w ∷ y.word; value = y.value; reads = λ z q. rw e (y.reads z q) }; closes = λ z q. b };
   empty = λ a d ts c q. absurd (taken a d ts c q);
 }
   where
@@ -64,8 +64,12 @@ must_onward {Token} {A} {C} {small} {fits} {before} {ends} {f} is w e b h r = re
     taken a d (u ∷ z) c q = go (is u) q
       where
         go : (x : Bool) → and_then (moved (when x (pure u)) refuse u z) (λ _. f r a) ≡ Got c (u ∷ z) → ⊥
-        go true q = let le = steady_less (h r a d).steady z c (u ∷ z) q in absurd (omega (arith, le))
+        go true q = let le = steady_less (h r (omega arith) a d).steady z c (u ∷ z) q in absurd (omega (arith, le))
         go false q = absurd cc
+
+must_onward : {Token A C : Type 0} {small : ℕ → A → Bool} {fits : ℕ → C → Bool} {before ends : Token → Bool} {f : ℕ → A → Parser Token C} (is : Token → Bool) (w : Token) → is w ≡ true → before w ≡ true
+    → ((r : ℕ) (a : A) → small r a ≡ true → Completes fits ends r (λ s. f s a)) → (r : ℕ) → Onward small fits before ends r (λ s a. must is (f s a))
+must_onward is w e b h r = must_onward_from is w e b r (λ s le a d. h s a d)
 
 -- a move whose values all fit, apart from that
 plain_move : {Token A : Type 0} {fits : ℕ → A → Bool} {ends : Token → Bool} {r : ℕ} {k : ℕ → Move Token A} → CompletesMove fits ends r k → ViableMove ends r k
@@ -101,6 +105,11 @@ no_bracket_at : (a : What) → is_sign signs.Increment a ≡ true → is_sign si
 unfolding same_sign
 no_bracket_at (What.Sign signs.LeftBracket) e = absurd cc
 no_bracket_at _ e = refl
+
+no_number_at : (a : What) → is_sign signs.Minus a ≡ true → number_of a ≡ None
+unfolding same_sign
+no_number_at (What.Number k) e = absurd cc
+no_number_at _ e = refl
 
 module _ {Token : Type 0} (v : Sight Token) (words : Words v) where
   same_closers : Within (closes v) (closes v)
@@ -345,6 +354,43 @@ module _ {Token : Type 0} (v : Sight Token) (words : Words v) where
         go None = stop_completes
         go (Some k) = go_completes (number_behind k)
 
+    -- behind the comma of a number: `-` closes them
+    abbrev ends_takes : Token → Bool
+    ends_takes u = is v signs.Minus u
+
+    take_completes : {ends : Token → Bool} (r : ℕ) (all : List ℕ) (k : ℕ) → Completes (λ s a. true) ends r (λ s. must (is v signs.Comma) (pure (all ++ k ∷ [])))
+    take_completes r all k = sign_completes signs.Comma (pure_completes (λ s le. refl))
+
+    take_moves : (r : ℕ) (all : List ℕ) (u : Token) → CompletesMove (λ s a. true) ends_takes r (λ s. take_by v all u)
+    take_moves r all u = go (number_of (seen v u))
+      where
+        go : (o : Option ℕ) → CompletesMove (λ s a. true) ends_takes r (λ s. go_with (λ k. must (is v signs.Comma) (pure (all ++ k ∷ []))) o)
+        go None = stop_completes
+        go (Some k) = go_completes (take_completes r all k)
+
+    take_stops : (s : ℕ) (all : List ℕ) (u : Token) → ends_takes u ≡ true → take_by v all u ≡ Stop
+    take_stops s all u e = rw (no_number_at (seen v u) e) refl
+
+    numbers_complete : (r : ℕ) → Completes (λ s a. true) ends_takes r (λ s. first_take v >>= more_takes v)
+    unfolding first_take
+    numbers_complete r =
+        then_completes (choice_completes (take_moves r []) words.number (λ s le. rw words.number_is refl) (take_completes r [] words.value))
+        (loop_behind {fits = λ s a. true} {k = λ s. take_by v} (λ u e. e) take_stops (λ s. take_shrinks v) (take_moves r) (λ u e. e))
+
+    takes_complete : {ends : Token → Bool} (r : ℕ) → Completes (λ s a. true) ends r (λ s. wait_takes v)
+    unfolding wait_takes takes_end
+    takes_complete r =
+        onward_completes {small = λ s a. true} (λ ts a rest e. refl) (numbers_complete r)
+        (must_onward (is v signs.Minus) (words.sign signs.Minus) (is_itself v words signs.Minus) (is_itself v words signs.Minus)
+        (λ r a d. must_completes (is_one_at v) words.one (rw words.one_is refl) (sign_completes signs.RightParenthesis (pure_completes (λ s le. refl)))) r)
+
+    controlled_completes : {ends : Token → Bool} (r : ℕ) → Completes low ends r (λ s. controlled_wait v s l)
+    unfolding controlled_wait
+    controlled_completes r =
+        onward_completes (λ ts p rest e. address_fits v r ts p rest e) (address_completes v words no_index_at r) (sign_onward signs.Comma (rw (words.sign_is signs.Comma) refl)
+        (λ r p d. onward_completes (λ ts q rest e. address_fits v r ts q rest e) (address_completes v words no_index_at r)
+        (must_onward_from (is v signs.Comma) (words.sign signs.Comma) (is_itself v words signs.Comma) (rw (words.sign_is signs.Comma) refl) r (λ s le q e. then_completes (takes_complete s) (pure_behind (λ u e. e) (λ t le2 all f. both_fit t p.levels q.levels (wider r t p.levels (omega (arith, le, le2)) d) (wider s t q.levels le2 e)))))) r)
+
     scan_completes : {ends : Token → Bool} (r : ℕ) → Completes low ends r (λ s. scan v s l)
     unfolding scan
     scan_completes r = must_completes (is_number_format_at v) words.format (rw words.format_is refl) (sign_completes signs.Comma (acting_completes (lined.Read l) (addressed_completes r)))
@@ -418,6 +464,7 @@ module _ {Token : Type 0} (v : Sight Token) (words : Words v) where
         go w.Broadcast = go_completes (acting_completes (lined.Broadcast l) (addressed_completes r))
         go w.Take = go_completes (numbered_completes r (lined.Take l))
         go w.Give = go_completes (numbered_completes r (lined.Give l))
+        go w.ControlledWait = go_completes (controlled_completes r)
         go _ = stop_completes
     library_moves r _ = stop_completes
 

@@ -31,8 +31,8 @@ use Rattle.c_simple.specs.declared.token.Routine.{Routine}
 use Rattle.c_simple.specs.declared.token.Routine.TheVariants as routine
 use Rattle.c_simple.specs.declared.token.Way.TheVariants as way
 use Rattle.c_simple.specs.Words.{way_of, counter, routine_of, number_of, text_of, is_no_value}
-use Rattle.c_simple.specs.Parsers.{line, go_with, ended, Source, Value, Call, value, value_first, call_arguments, source_call, behind_callee, source_by, value_or_call, set_to, change_by, counted, set, set_value, change, assigned_by, assigned, stepped_by, stepped, count_first, bare, declared_as, declared_by_source, declared, declarator, one_more, comma_by, more_declarators, declarators, returned, value_returned, nothing_returned, return_by, is_no_value_at, is_null_at, null_closed, addressed, initialised, joined, acting, waited, wait, monitor, numbered, is_number_format_at, scan, printed, print_with, print_by, print_behind, print, created, create_argument, behind_function, create_function, create, library, call_statement, call_behind_name, parenthesis_by, change_behind_name, simple_named, step_named, counted_by, begun_by, step_begun, simple_begun, simple_open, step_open, simple, step}
-use Rattle.c_simple.proofs.Shorter.{comma_shrinks}
+use Rattle.c_simple.specs.Parsers.{line, go_with, ended, Source, Value, Call, value, value_first, call_arguments, source_call, behind_callee, source_by, value_or_call, set_to, change_by, counted, set, set_value, change, assigned_by, assigned, stepped_by, stepped, count_first, bare, declared_as, declared_by_source, declared, declarator, one_more, comma_by, more_declarators, declarators, returned, value_returned, nothing_returned, return_by, is_no_value_at, is_null_at, null_closed, addressed, initialised, joined, acting, waited, wait, take_by, first_take, more_takes, is_one_at, takes_end, takes, controlled_wait, monitor, numbered, is_number_format_at, scan, printed, print_with, print_by, print_behind, print, created, create_argument, behind_function, create_function, create, library, call_statement, call_behind_name, parenthesis_by, change_behind_name, simple_named, step_named, counted_by, begun_by, step_begun, simple_begun, simple_open, step_open, simple, step}
+use Rattle.c_simple.proofs.Shorter.{comma_shrinks, take_shrinks}
 use Rattle.c_simple.proofs.Spelled.{word_of, together_one, together_more}
 use Rattle.c_simple.proofs.Turns.{commit_then}
 
@@ -78,12 +78,16 @@ not_called l a f [] d y c = refl
 not_called {k} {after} {x} l (What.Name n) f (t ∷ ts) d y c = no_parenthesis t ts after c (expressions_end k (at l (What.Name n) ∷ t ∷ ts) after x y)
 not_called {k} {after} {x} l (What.Fixed w.Main) f (t ∷ ts) d y c = no_parenthesis t ts after c (expressions_end k (at l (What.Fixed w.Main) ∷ t ∷ ts) after x y)
 not_called {k} {after} {x} l (What.Fixed w.Parameter) f (t ∷ ts) d y c = no_parenthesis t ts after c (expressions_end k (at l (What.Fixed w.Parameter) ∷ t ∷ ts) after x y)
+not_called {k} {after} {x} l (What.Fixed w.ConditionParameter) f (t ∷ ts) d y c = no_parenthesis t ts after c (expressions_end k (at l (What.Fixed w.ConditionParameter) ∷ t ∷ ts) after x y)
+not_called {k} {after} {x} l (What.Fixed w.MutexParameter) f (t ∷ ts) d y c = no_parenthesis t ts after c (expressions_end k (at l (What.Fixed w.MutexParameter) ∷ t ∷ ts) after x y)
 not_called l _ f (t ∷ ts) d y c = absurd cc
 
 callee_named : (a : What) (f : List ℕ) → callee a ≡ Some f → (n : List ℕ) × (name_of a ≡ Some n)
 callee_named (What.Name n) f d = (n, refl)
 callee_named (What.Fixed w.Main) f d = (spelling w.Main, refl)
 callee_named (What.Fixed w.Parameter) f d = (spelling w.Parameter, refl)
+callee_named (What.Fixed w.ConditionParameter) f d = (spelling w.ConditionParameter, refl)
+callee_named (What.Fixed w.MutexParameter) f d = (spelling w.MutexParameter, refl)
 callee_named _ f d = absurd cc
 
 changing_apart : (t : Sign) (o : Op) → changing t ≡ Some o → apart (What.Sign t) ≡ true
@@ -464,6 +468,7 @@ module _ {Token : Type 0} (v : Sight Token) (honest : Honest v) where
   word_named routine.Broadcast = refl
   word_named routine.Take = refl
   word_named routine.Give = refl
+  word_named routine.ControlledWait = refl
 
   no_callee : (x : Routine) → callee (What.Fixed (word_of x)) ≡ None
   no_callee routine.Print = refl
@@ -479,6 +484,7 @@ module _ {Token : Type 0} (v : Sight Token) (honest : Honest v) where
   no_callee routine.Broadcast = refl
   no_callee routine.Take = refl
   no_callee routine.Give = refl
+  no_callee routine.ControlledWait = refl
 
   library_begins : (x : Routine) (r l m : ℕ) (u t : Token) → v.item u ≡ fixed l (word_of x) → v.item t ≡ sign m s.LeftParenthesis → routine_of v.null (What.Fixed (word_of x)) ≡ Some x → parenthesis_by v r u t ≡ Go (library v r l x)
   library_begins x r l m u t q h d = rw (is_at v s.LeftParenthesis m t h, q, no_callee x, d) refl
@@ -596,12 +602,42 @@ module _ {Token : Type 0} (v : Sight Token) (honest : Honest v) where
             (close_finds v s.RightParenthesis (fits r x.levels) (pure (created l p f x)) d after after (created l p f x) (fits_true r x.levels (omega (arith, le))) (done after (created l p f x)))),
       ))))))
 
-  wait_finds : {ts mid after : List Item} {p q : Tall Place} (l n i : ℕ) → SpellsAddress ts (sign n s.Comma ∷ mid) p → SpellsAddress mid (sign i s.RightParenthesis ∷ after) q → (r : ℕ) → max p.levels q.levels ≤ r → F (wait v r l) ts after (waited l p q)
+  wait_finds : {ts mid after : List Item} {p q : Tall Place} (l n i : ℕ) → SpellsAddress ts (sign n s.Comma ∷ mid) p → SpellsAddress mid (sign i s.RightParenthesis ∷ after) q → (r : ℕ) → max p.levels q.levels ≤ r → F (wait v r l) ts after (waited l p q [])
   unfolding wait
   wait_finds {ts} {mid} {after} {p} {q} l n i d f r le =
-      bind_finds v.item (address v r) (λ p. must (is v s.Comma) (addressed v r >>= λ q. pure (waited l p q))) ts (sign n s.Comma ∷ mid) after p (waited l p q) (address_finds v honest d refl r (omega (arith, le)))
-      (sign_finds v s.Comma (addressed v r >>= λ q. pure (waited l p q)) n mid after (waited l p q)
-      (bind_finds v.item (addressed v r) (λ q. pure (waited l p q)) mid after after q (waited l p q) (addressed_finds i f r (omega (arith, le))) (done after (waited l p q))))
+      bind_finds v.item (address v r) (λ p. must (is v s.Comma) (addressed v r >>= λ q. pure (waited l p q []))) ts (sign n s.Comma ∷ mid) after p (waited l p q []) (address_finds v honest d refl r (omega (arith, le)))
+      (sign_finds v s.Comma (addressed v r >>= λ q. pure (waited l p q [])) n mid after (waited l p q [])
+      (bind_finds v.item (addressed v r) (λ q. pure (waited l p q [])) mid after after q (waited l p q []) (addressed_finds i f r (omega (arith, le))) (done after (waited l p q []))))
+
+  -- a number and its comma
+  take_goes : (all : List ℕ) (n j k : ℕ) (after : List Item) (u : Token) → v.item u ≡ at n (What.Number k) → (p : Parser Token (List ℕ)) × (take_by v all u ≡ Go p) × F p (sign j s.Comma ∷ after) after (all ++ k ∷ [])
+  take_goes all n j k after u q = (must (is v s.Comma) (pure (all ++ k ∷ [])), rw q refl, sign_finds v s.Comma (pure (all ++ k ∷ [])) j after after (all ++ k ∷ []) (done after (all ++ k ∷ [])))
+
+  takes_reach : {before after : List Item} {all : List ℕ} (j : ℕ) → Commas g.SpellsNumber before (sign j s.Comma ∷ after) all → Reaches v.item (first_take v >>= more_takes v) (loop (take_by v) all) before after
+  unfolding first_take
+  takes_reach {before} {after} j (one (g.number {l = n} {k = k})) =
+      bind_reaches v.item (first_take v) (more_takes v) (at n (What.Number k) ∷ sign j s.Comma ∷ after) after (k ∷ [])
+      (commit_finds v.item (take_by v []) refuse (at n (What.Number k)) (sign j s.Comma ∷ after) after (k ∷ []) (take_goes [] n j k after))
+  takes_reach {before} {after} j (more {l = i} {all = all} d (g.number {l = n} {k = k})) =
+      turn_reaches v.item (first_take v >>= more_takes v) (take_by v) before (sign j s.Comma ∷ after) after (at n (What.Number k)) all (all ++ k ∷ []) (take_shrinks v) (takes_reach i d) (take_goes all n j k after)
+
+  takes_find : {before after : List Item} {all : List ℕ} (j b h d : ℕ) → Commas g.SpellsNumber before (sign j s.Comma ∷ sign b s.Minus ∷ at h (What.Number 1) ∷ sign d s.RightParenthesis ∷ after) all → F (takes v) before after all
+  unfolding takes takes_end
+  takes_find {before} {after} {all} j b h d x =
+      bind_finds v.item (first_take v >>= more_takes v) (takes_end v) before (sign b s.Minus ∷ at h (What.Number 1) ∷ sign d s.RightParenthesis ∷ after) after all all
+      (loop_finds v.item (first_take v >>= more_takes v) (take_by v) before (sign b s.Minus ∷ at h (What.Number 1) ∷ sign d s.RightParenthesis ∷ after) all (takes_reach j x) (λ u q. rw q refl))
+      (sign_finds v s.Minus (must (is_one_at v) (must (is v s.RightParenthesis) (pure all))) b (at h (What.Number 1) ∷ sign d s.RightParenthesis ∷ after) after all
+      (must_finds v.item (is_one_at v) (must (is v s.RightParenthesis) (pure all)) (at h (What.Number 1)) (sign d s.RightParenthesis ∷ after) after all (λ u q. rw q refl) (sign_finds v s.RightParenthesis (pure all) d after after all (done after all))))
+
+  controlled_finds : {ts mid next after : List Item} {p q : Tall Place} {all : List ℕ} (l n i j b h d : ℕ) → SpellsAddress ts (sign n s.Comma ∷ mid) p → SpellsAddress mid (sign i s.Comma ∷ next) q
+      → Commas g.SpellsNumber next (sign j s.Comma ∷ sign b s.Minus ∷ at h (What.Number 1) ∷ sign d s.RightParenthesis ∷ after) all → (r : ℕ) → max p.levels q.levels ≤ r → F (controlled_wait v r l) ts after (waited l p q all)
+  unfolding controlled_wait
+  controlled_finds {ts} {mid} {next} {after} {p} {q} {all} l n i j b h d x y z r le =
+      bind_finds v.item (address v r) (λ p. must (is v s.Comma) (address v r >>= λ q. must (is v s.Comma) (takes v >>= λ all. pure (waited l p q all)))) ts (sign n s.Comma ∷ mid) after p (waited l p q all) (address_finds v honest x refl r (omega (arith, le)))
+      (sign_finds v s.Comma (address v r >>= λ q. must (is v s.Comma) (takes v >>= λ all. pure (waited l p q all))) n mid after (waited l p q all)
+      (bind_finds v.item (address v r) (λ q. must (is v s.Comma) (takes v >>= λ all. pure (waited l p q all))) mid (sign i s.Comma ∷ next) after q (waited l p q all) (address_finds v honest y refl r (omega (arith, le)))
+      (sign_finds v s.Comma (takes v >>= λ all. pure (waited l p q all)) i next after (waited l p q all)
+      (bind_finds v.item (takes v) (λ all. pure (waited l p q all)) next after after all (waited l p q all) (takes_find j b h d z) (done after (waited l p q all))))))
 
   -- ---- statements
 
@@ -635,6 +671,7 @@ module _ {Token : Type 0} (v : Sight Token) (honest : Honest v) where
   simple_open_finds {k} (g.broadcast {l = l} {m = m} {n = n1} d) c n r le = library_finds routine.Broadcast k r l m refl (acting_finds (lined.Broadcast l) (addressed v r) (addressed_finds n1 d r (omega (arith, le))))
   simple_open_finds {k} {after = after} (g.take {l = l} {m = m} {n = n1} {i = i} {monitor = x}) c n r le = library_finds routine.Take k r l m refl (numbered_finds (lined.Take l) n1 i x after)
   simple_open_finds {k} {after = after} (g.give {l = l} {m = m} {n = n1} {i = i} {monitor = x}) c n r le = library_finds routine.Give k r l m refl (numbered_finds (lined.Give l) n1 i x after)
+  simple_open_finds {k} (g.controlled_wait {l = l} {m = m} {n = n1} {i = i} {j = j} {g = b} {h = h} {d = e} x y z) c n r le = library_finds routine.ControlledWait k r l m refl (controlled_finds l n1 i j b h e x y z r (omega (arith, le)))
 
   -- what is read, and the sign behind it
   closed_finds : {ts after : List Item} {y : Tall (List Stmt)} (k : Token → Move Token (Tall (List Stmt))) (closer : Sign) (l r : ℕ) → F (commit k refuse) ts (sign l closer ∷ after) y → y.levels ≤ suc r

@@ -1,5 +1,5 @@
 -- Statements that hold no others are read alike where tokens are seen alike.
-use Rattle.std.proofs.Common.{◌≡◌, ℕ, zero, suc, Bool, true, false, cond, ◌||◌, if◌then◌else◌, List, ◌∷◌, length, Option, Some, None, refl, sym, ap, subst}
+use Rattle.std.proofs.Common.{◌≡◌, ℕ, zero, suc, Bool, true, false, cond, ◌||◌, if◌then◌else◌, List, [], ◌∷◌, ◌++◌, length, Option, Some, None, refl, sym, ap, subst}
 use Rattle.std.specs.Option.{is_some}
 use Rattle.c_lexer.specs.declared.token.Sign.{Sign}
 use Rattle.c_lexer.specs.declared.token.Sign.TheVariants as s
@@ -21,8 +21,8 @@ use Rattle.c_simple.specs.declared.token.Way.{Way}
 use Rattle.c_simple.specs.declared.token.Way.TheVariants as way
 use Rattle.c_simple.specs.declared.token.Routine.{Routine}
 use Rattle.c_simple.specs.declared.token.Routine.TheVariants as routine
-use Rattle.c_simple.specs.Words.{way_of, counter, routine_of, is_null, is_no_value, number_of, text_of, is_number_format}
-use Rattle.c_simple.specs.Parsers.{line_in, line, go_with, ended, Source, Value, Call, value, name_value, too_deep_on, value_first, call_arguments, source_call, behind_callee, source_by, value_or_call, set_to, change_by, counted, set_value, change, assigned_by, assigned, stepped_by, stepped, count_first, bare, declared_as, declared_by_source, declared, declarator, one_more, comma_by, more_declarators, declarators, returned, value_returned, return_by, is_null_at, null_closed, addressed, initialised, joined, acting, waited, wait, monitor, numbered, scan, printed, print_with, print_by, print_behind, print, created, create_argument, behind_function, create_function, create, library, call_statement, call_by, called_by, parenthesis_by, change_behind_name, simple_named, step_named, counted_by, begun_by, step_begun, other_begun, simple_begun, step_by, simple_by}
+use Rattle.c_simple.specs.Words.{way_of, counter, routine_of, is_null, is_no_value, is_one, number_of, text_of, is_number_format}
+use Rattle.c_simple.specs.Parsers.{line_in, line, go_with, ended, Source, Value, Call, value, name_value, too_deep_on, value_first, call_arguments, source_call, behind_callee, source_by, value_or_call, set_to, change_by, counted, set_value, change, assigned_by, assigned, stepped_by, stepped, count_first, bare, declared_as, declared_by_source, declared, declarator, one_more, comma_by, more_declarators, declarators, returned, value_returned, return_by, is_null_at, null_closed, addressed, initialised, joined, acting, waited, wait, take_by, first_take, more_takes, takes_end, takes, controlled_wait, monitor, numbered, scan, printed, print_with, print_by, print_behind, print, created, create_argument, behind_function, create_function, create, library, call_statement, call_by, called_by, parenthesis_by, change_behind_name, simple_named, step_named, counted_by, begun_by, step_begun, other_begun, simple_begun, step_by, simple_by}
 
 module _ {One Two : Type 0} (v : Sight One) (z : Sight Two) (like : Like v z) (Later : List One → List Two → Type 0) (long : (x : List One) (y : List Two) → Later x y → length x ≡ length y) where
   abbrev Y : Ways One Two Item
@@ -187,8 +187,29 @@ module _ {One Two : Type 0} (v : Sight One) (z : Sight Two) (like : Like v z) (L
   wait_same : (r l : ℕ) → A (wait v r l) (wait z r l)
   unfolding wait
   wait_same r l =
-      bind_alike Y (address v r) (address z r) (λ p. must (is v s.Comma) (addressed v r >>= λ q. pure (waited l p q))) (λ p. must (is z s.Comma) (addressed z r >>= λ q. pure (waited l p q))) (address_same v z like Later long r)
-      (λ p. sign_then s.Comma (addressed v r >>= λ q. pure (waited l p q)) (addressed z r >>= λ q. pure (waited l p q)) (then_pure (addressed v r) (addressed z r) (waited l p) (addressed_same r)))
+      bind_alike Y (address v r) (address z r) (λ p. must (is v s.Comma) (addressed v r >>= λ q. pure (waited l p q []))) (λ p. must (is z s.Comma) (addressed z r >>= λ q. pure (waited l p q []))) (address_same v z like Later long r)
+      (λ p. sign_then s.Comma (addressed v r >>= λ q. pure (waited l p q [])) (addressed z r >>= λ q. pure (waited l p q [])) (then_pure (addressed v r) (addressed z r) (λ q. waited l p q []) (addressed_same r)))
+
+  take_same : (all : List ℕ) → AMs (take_by v all) (take_by z all)
+  take_same all =
+      whats (λ a. go_with (λ k. must (is v s.Comma) (pure (all ++ k ∷ []))) (number_of a)) (λ a. go_with (λ k. must (is z s.Comma) (pure (all ++ k ∷ []))) (number_of a))
+      (λ a. go_with_same (λ k. must (is v s.Comma) (pure (all ++ k ∷ []))) (λ k. must (is z s.Comma) (pure (all ++ k ∷ []))) (λ k. sign_then s.Comma (pure (all ++ k ∷ [])) (pure (all ++ k ∷ [])) (pure_alike Y (all ++ k ∷ []))) (number_of a)) tt tt
+
+  takes_same : A (takes v) (takes z)
+  unfolding takes first_take takes_end
+  takes_same =
+      bind_alike Y (first_take v >>= more_takes v) (first_take z >>= more_takes z) (takes_end v) (takes_end z)
+      (bind_alike Y (first_take v) (first_take z) (more_takes v) (more_takes z) (choice_alike Y (take_by v []) (take_by z []) (take_same [])) (λ all. loop_alike Y (take_by v) (take_by z) take_same all))
+      (λ all. sign_then s.Minus _ _ (test_then is_one _ _ refl refl (sign_then s.RightParenthesis (pure all) (pure all) (pure_alike Y all))))
+
+  controlled_wait_same : (r l : ℕ) → A (controlled_wait v r l) (controlled_wait z r l)
+  unfolding controlled_wait
+  controlled_wait_same r l =
+      bind_alike Y (address v r) (address z r) (λ p. must (is v s.Comma) (address v r >>= λ q. must (is v s.Comma) (takes v >>= λ all. pure (waited l p q all))))
+      (λ p. must (is z s.Comma) (address z r >>= λ q. must (is z s.Comma) (takes z >>= λ all. pure (waited l p q all)))) (address_same v z like Later long r)
+      (λ p. sign_then s.Comma (address v r >>= λ q. must (is v s.Comma) (takes v >>= λ all. pure (waited l p q all))) (address z r >>= λ q. must (is z s.Comma) (takes z >>= λ all. pure (waited l p q all)))
+      (bind_alike Y (address v r) (address z r) (λ q. must (is v s.Comma) (takes v >>= λ all. pure (waited l p q all))) (λ q. must (is z s.Comma) (takes z >>= λ all. pure (waited l p q all))) (address_same v z like Later long r)
+      (λ q. sign_then s.Comma (takes v >>= λ all. pure (waited l p q all)) (takes z >>= λ all. pure (waited l p q all)) (then_pure (takes v) (takes z) (waited l p q) takes_same))))
 
   monitor_same : A (monitor v) (monitor z)
   unfolding monitor
@@ -252,6 +273,7 @@ module _ {One Two : Type 0} (v : Sight One) (z : Sight Two) (like : Like v z) (L
   library_same r l routine.Broadcast = acting_same (lined.Broadcast l) (addressed v r) (addressed z r) (addressed_same r)
   library_same r l routine.Take = numbered_same (lined.Take l)
   library_same r l routine.Give = numbered_same (lined.Give l)
+  library_same r l routine.ControlledWait = controlled_wait_same r l
 
   -- ---- simple statements
 

@@ -1,5 +1,5 @@
 -- No parser of this crate takes a token back, so the bound on the turns of its loop is never met.
-use Rattle.std.proofs.Common.{ℕ, zero, suc, Bool, true, false, cond, List, ◌∷◌, Option, Some, None, arith}
+use Rattle.std.proofs.Common.{ℕ, zero, suc, Bool, true, false, cond, List, [], ◌∷◌, Option, Some, None, arith}
 use Rattle.c_lexer.specs.declared.token.Sign.{Sign}
 use Rattle.c_lexer.specs.declared.token.Sign.TheVariants as s
 use Rattle.c_tree.specs.declared.program.Kind.{Kind}
@@ -20,7 +20,7 @@ use Rattle.c_simple.specs.declared.token.Way.TheVariants as way
 use Rattle.c_simple.specs.declared.token.Routine.{Routine}
 use Rattle.c_simple.specs.declared.token.Routine.TheVariants as routine
 use Rattle.c_simple.specs.Words.{way_of, counter, routine_of, number_of, text_of}
-use Rattle.c_simple.specs.Parsers.{line, go_with, ended, Source, value, value_first, behind_callee, value_or_call, assigned_by, stepped_by, count_first, declared, declarator, comma_by, declarators, return_by, null_closed, addressed, initialised, joined, acting, wait, monitor, numbered, scan, print_by, print_behind, print, create_argument, create_function, create, library, call_by, called_by, parenthesis_by, simple_named, step_named, counted_by, begun_by, simple_begun, step_by, simple_by}
+use Rattle.c_simple.specs.Parsers.{line, go_with, ended, Source, value, value_first, behind_callee, value_or_call, assigned_by, stepped_by, count_first, declared, declarator, comma_by, declarators, return_by, null_closed, addressed, initialised, joined, acting, wait, take_by, first_take, takes_end, takes, controlled_wait, monitor, numbered, scan, print_by, print_behind, print, create_argument, create_function, create, library, call_by, called_by, parenthesis_by, simple_named, step_named, counted_by, begun_by, simple_begun, step_by, simple_by}
 
 module _ {Token : Type 0} (v : Sight Token) where
   less_with : {A B : Type 0} {p : B → Parser Token A} (o : Option B) → ((x : B) → Sound (p x) Less) → SoundMove Less (go_with p o)
@@ -123,6 +123,17 @@ module _ {Token : Type 0} (v : Sight Token) where
   unfolding monitor
   less_numbered act = less_bind (less_choice (λ u. less_with (number_of (seen v u)) (λ k. less_must _ less_pure))) (λ k. less_pure)
 
+  less_take_by : (all : List ℕ) (u : Token) → SoundMove Less (take_by v all u)
+  less_take_by all u = less_with (number_of (seen v u)) (λ k. less_must _ less_pure)
+
+  -- so does each turn of the loop over the monitors of a wait
+  pub take_shrinks : (all : List ℕ) (u : Token) → Shrinks (take_by v all u)
+  take_shrinks all u = less_shrinks (less_take_by all u)
+
+  less_takes : Sound (takes v) Less
+  unfolding takes first_take takes_end
+  less_takes = less_bind (less_bind (less_choice (less_take_by [])) (less_loop less_take_by)) (λ all. less_must _ (less_must _ (less_must _ less_pure)))
+
   less_print_by : (r l : ℕ) (f : List ℕ) (a : What) → SoundMove Less (print_by v r l f a)
   less_print_by r l f (What.Sign s.RightParenthesis) = go_sound less_pure
   less_print_by r l f (What.Sign s.Comma) = less_deeper r (λ m e. less_bind (less_some_arguments v r) (λ x. less_pure))
@@ -138,7 +149,7 @@ module _ {Token : Type 0} (v : Sight Token) where
       less_bind (less_address v r) (λ p. less_must _ (less_must _ (less_must _ (less_choice (λ u. less_named v (name_of (seen v u)) (λ f. less_must _ (less_bind (fewer_less (fewer_argument v r)) (λ e. less_close v _ _ less_pure))))))))
 
   less_library : (r l : ℕ) (x : Routine) → Sound (library v r l x) Less
-  unfolding wait scan
+  unfolding wait controlled_wait scan
   less_library r l routine.Print = less_print r l
   less_library r l routine.Scan = less_must _ (less_must _ (less_acting _ (less_addressed r)))
   less_library r l routine.Create = less_create r l
@@ -152,6 +163,8 @@ module _ {Token : Type 0} (v : Sight Token) where
   less_library r l routine.Broadcast = less_acting _ (less_addressed r)
   less_library r l routine.Take = less_numbered _
   less_library r l routine.Give = less_numbered _
+  less_library r l routine.ControlledWait =
+      less_bind (less_address v r) (λ p. less_must _ (less_bind (less_address v r) (λ q. less_must _ (less_bind less_takes (λ all. less_pure)))))
 
   -- ---- statements
 

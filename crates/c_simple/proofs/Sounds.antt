@@ -14,7 +14,7 @@ use Rattle.c_grammar.specs.Levels.{Tall, tall, alone, followed, together}
 use Rattle.c_grammar.specs.Commas.{Commas, one}
 use Rattle.c_grammar.specs.Expressions.{SpellsPlace, SpellsAddress, SpellsCall}
 use Rattle.c_grammar.specs.Simple as g
-use Rattle.c_grammar.specs.Simple.{SpellsStep, SpellsDeclarator, SpellsSimple}
+use Rattle.c_grammar.specs.Simple.{SpellsNumber, SpellsStep, SpellsDeclarator, SpellsSimple}
 use Rattle.parse_laws.specs.Parser.{Parser, Move, Stop, Deep}
 use Rattle.parse_laws.proofs.Sound.{Sound, SoundMove, stop_sound, deep_sound, go_sound, pure_sound, refuse_sound, sound_map, bind_sound, and_go_sound, commit_sound, token_sound, when_sound, loop_sound}
 use Rattle.c_expressions.specs.Parsers.{Sight, seen, is, goes_on, go_named, fits, fitting}
@@ -26,9 +26,9 @@ use Rattle.c_simple.specs.declared.token.Way.TheVariants as way
 use Rattle.c_simple.specs.declared.token.Routine.{Routine}
 use Rattle.c_simple.specs.declared.token.Routine.TheVariants as routine
 use Rattle.c_simple.specs.Words.{way_of, counter, routine_of, number_of, text_of}
-use Rattle.c_simple.specs.Parsers.{line, go_with, ended, Source, value, value_first, call_arguments, behind_callee, value_or_call, assigned_by, assigned, stepped_by, stepped, count_first, declared, declarator, one_more, comma_by, declarators, return_by, null_closed, addressed, initialised, joined, acting, wait, monitor, numbered, scan, print_by, print_behind, print, printed, create_argument, create_function, create, library, call_by, called_by, simple_named, step_named, counted_by, begun_by, step_begun, other_begun, simple_begun, step_by, simple_by}
+use Rattle.c_simple.specs.Parsers.{line, go_with, ended, Source, value, value_first, call_arguments, behind_callee, value_or_call, assigned_by, assigned, stepped_by, stepped, count_first, declared, declarator, one_more, comma_by, declarators, return_by, null_closed, addressed, initialised, joined, acting, wait, take_by, first_take, takes_end, takes, controlled_wait, monitor, numbered, scan, print_by, print_behind, print, printed, create_argument, create_function, create, library, call_by, called_by, simple_named, step_named, counted_by, begun_by, step_begun, other_begun, simple_begun, step_by, simple_by}
 use Rattle.c_simple.proofs.Spelled as spelled
-use Rattle.c_simple.proofs.Spelled.{SpellsSource, word_of}
+use Rattle.c_simple.proofs.Spelled.{SpellsSource, Takes, word_of}
 
 module _ {Token : Type 0} (v : Sight Token) where
   module _ {A : Type 0} {R : List Token → List Token → A → Type 0} where
@@ -202,6 +202,25 @@ module _ {Token : Type 0} (v : Sight Token) where
         (λ a. pure_sound (λ rest ts z m. subst (λ (w : List Token). SpellsSimple k (fixed l (word_of x) ∷ sign m s.LeftParenthesis ∷ items v w) (items v rest) (alone (act a) 0)) (sym z.2)
         (spelled.number_spelled (λ w. SpellsSimple k (fixed l (word_of x) ∷ sign m s.LeftParenthesis ∷ w) (items v rest) (alone (act a) 0)) (v.item z.0) (v.item z.1) (items v rest) a z.3 z.4 (λ n i. h n i m (items v rest) a))))
 
+    -- numbers with commas between them, and one behind them
+    abbrev Taken : List Token → List Token → List ℕ → Type 0
+    Taken ts rest all = (n : ℕ) × Commas SpellsNumber (items v ts) (sign n s.Comma ∷ items v rest) all
+
+    first_take_sound : Sound (first_take v) Taken
+    unfolding first_take
+    first_take_sound =
+        commit_sound (λ t1. with_sound (number_of (seen v t1)) (λ a d. token_sound (λ t2 q. pure_sound (λ rest. spelled.first_take_spelled (v.item t1) (v.item t2) (items v rest) a (spelled.number_is (seen v t1) a d) q)))) refuse_sound
+
+    take_sound : (all : List ℕ) (t1 : Token) → SoundMove (λ mid rest more. (ts : List Token) → Taken ts (t1 ∷ mid) all → Taken ts rest more) (take_by v all t1)
+    take_sound all t1 =
+        with_sound (number_of (seen v t1)) (λ a d. token_sound (λ t2 q. pure_sound (λ rest ts y. spelled.take_spelled (v.item t1) (v.item t2) (items v ts) (items v rest) all a (spelled.number_is (seen v t1) a d) q y)))
+
+    takes_sound : Sound (takes v) (λ ts rest all. Takes (items v ts) (items v rest) all)
+    unfolding takes takes_end
+    takes_sound =
+        bind_sound (bind_sound first_take_sound (loop_sound {R = Taken} take_sound))
+        (λ all. token_sound (λ t1 q1. token_sound (λ t2 q2. token_sound (λ t3 q3. pure_sound (λ rest ts y. spelled.takes_spelled (v.item t1) (v.item t2) (v.item t3) (items v ts) (items v rest) all q1 q2 q3 y)))))
+
     print_by_sound : (r : ℕ) (t1 t2 : Token) (f : List ℕ) (a : What) → seen v t1 ≡ What.Text f → seen v t2 ≡ a → SoundMove (λ mid rest y. Behind routine.Print (t1 ∷ t2 ∷ mid) rest y) (print_by v r l f a)
     print_by_sound r t1 t2 f (What.Sign s.RightParenthesis) d1 d2 = go_sound (pure_sound (λ rest m. spelled.print_spelled k l m (v.item t1) (v.item t2) (items v rest) f d1 d2))
     print_by_sound r t1 t2 f (What.Sign s.Comma) d1 d2 =
@@ -223,7 +242,7 @@ module _ {Token : Type 0} (v : Sight Token) where
         spelled.create_spelled k l m (v.item t1) (v.item t2) (v.item t3) (v.item t4) (v.item t5) (v.item t6) (items v ts) (items v mid) (items v rest) p f e q1 q2 q3 d q5 q6 z y)))))) refuse_sound))))
 
     library_sound : (r : ℕ) (x : Routine) → Sound (library v r l x) (Behind x)
-    unfolding wait scan
+    unfolding wait controlled_wait scan
     library_sound r routine.Print = print_sound r
     library_sound r routine.Scan =
         token_sound (λ t1 q1. token_sound (λ t2 q2. bind_sound (addressed_sound r) (λ p. pure_sound (λ rest ts z m. spelled.scan_spelled k l m (v.item t1) (v.item t2) (items v ts) (items v rest) p q1 q2 z))))
@@ -239,6 +258,9 @@ module _ {Token : Type 0} (v : Sight Token) where
     library_sound r routine.Broadcast = acting_sound routine.Broadcast (lined.Broadcast l) (addressed_sound r) (λ ts rest a z m. g.broadcast z.1)
     library_sound r routine.Take = numbered_sound routine.Take (lined.Take l) (λ n i m rest a. g.take)
     library_sound r routine.Give = numbered_sound routine.Give (lined.Give l) (λ n i m rest a. g.give)
+    library_sound r routine.ControlledWait =
+        bind_sound (address_sound v r) (λ p. token_sound (λ t1 q1. bind_sound (address_sound v r) (λ q. token_sound (λ t2 q2. bind_sound takes_sound (λ all. pure_sound (λ rest next z mid y ts x m.
+        spelled.controlled_wait_spelled k l m (v.item t1) (v.item t2) (items v ts) (items v mid) (items v next) (items v rest) p q all q1 q2 x y z))))))
 
   -- ---- statements
 

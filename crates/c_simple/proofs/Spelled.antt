@@ -16,17 +16,17 @@ use Rattle.c_grammar.specs.declared.words.FixedWord.{FixedWord}
 use Rattle.c_grammar.specs.declared.words.FixedWord.TheVariants as w
 use Rattle.c_grammar.specs.Items.{What, Item, at, sign, fixed, callee, name_of}
 use Rattle.c_grammar.specs.Levels.{Tall, tall, over, alone, followed, together, gathered}
-use Rattle.c_grammar.specs.Commas.{Commas, more}
+use Rattle.c_grammar.specs.Commas.{Commas, one, more}
 use Rattle.c_grammar.specs.Expressions.{SpellsWhole, primary, SpellsExpressions, SpellsPlace, SpellsAddress, SpellsArgument, Called, SpellsCall}
 use Rattle.c_grammar.specs.Simple as g
-use Rattle.c_grammar.specs.Simple.{changing, counting, number_format, SpellsStep, SpellsDeclarator, SpellsSimple}
+use Rattle.c_grammar.specs.Simple.{changing, counting, number_format, SpellsNumber, number, SpellsStep, SpellsDeclarator, SpellsSimple}
 use Rattle.c_expressions.specs.Words.{is_sign}
 use Rattle.c_expressions.specs.Parsers.{what_at, as_arguments, no_arguments}
 use Rattle.c_expressions.proofs.Spelled.{is_sign_only, whole, name_spelled}
 use Rattle.c_simple.specs.declared.token.Way.TheVariants as way
 use Rattle.c_simple.specs.declared.token.Routine.{Routine}
 use Rattle.c_simple.specs.declared.token.Routine.TheVariants as routine
-use Rattle.c_simple.specs.Words.{way_by, way_of, counter, if_null, routine_of, is_null, is_no_value, number_of, text_of, is_number_format}
+use Rattle.c_simple.specs.Words.{way_by, way_of, counter, if_null, routine_of, is_null, is_no_value, is_one, number_of, text_of, is_number_format}
 use Rattle.c_simple.specs.Parsers.{line_in, name_value, Source, Value, Call, set_to, change_by, counted, bare, declared_as, returned, printed, created, waited, call_statement}
 
 -- ---- single tokens
@@ -84,6 +84,8 @@ callee_name : (a : What) (f : List ℕ) → callee a ≡ Some f → name_of a �
 callee_name (What.Name n) f d = d
 callee_name (What.Fixed w.Main) f d = d
 callee_name (What.Fixed w.Parameter) f d = d
+callee_name (What.Fixed w.ConditionParameter) f d = d
+callee_name (What.Fixed w.MutexParameter) f d = d
 callee_name _ f d = absurd cc
 
 -- a name alone is a value
@@ -163,6 +165,7 @@ word_of routine.Signal = w.Signal
 word_of routine.Broadcast = w.Broadcast
 word_of routine.Take = w.Take
 word_of routine.Give = w.Give
+word_of routine.ControlledWait = w.ControlledWait
 
 -- what is called is a word
 is_word : (word : FixedWord) (x y : Routine) → word ≡ word_of y → Some y ≡ Some x → What.Fixed word ≡ What.Fixed (word_of x)
@@ -186,6 +189,7 @@ routine_word null (What.Fixed w.Signal) x e = is_word w.Signal x routine.Signal 
 routine_word null (What.Fixed w.Broadcast) x e = is_word w.Broadcast x routine.Broadcast refl e
 routine_word null (What.Fixed w.Take) x e = is_word w.Take x routine.Take refl e
 routine_word null (What.Fixed w.Give) x e = is_word w.Give x routine.Give refl e
+routine_word null (What.Fixed w.ControlledWait) x e = is_word w.ControlledWait x routine.ControlledWait refl e
 routine_word null _ x e = absurd cc
 
 pub number_is : (a : What) (n : ℕ) → number_of a ≡ Some n → a ≡ What.Number n
@@ -243,8 +247,44 @@ create_spelled k l m (at n a) (at i b) (at j c) (at h d) (at o x) (at z y) ts mi
     g.create five q4 (subst (λ (w : What). SpellsArgument mid (at z w ∷ rest) e) (is_sign_only s.RightParenthesis y q6) v)
 
 pub wait_spelled : (k : Kind) (l m : ℕ) (t1 : Item) (ts mid rest : List Item) (p q : Tall Place) → is_sign s.Comma (what_at t1) ≡ true → SpellsAddress ts (t1 ∷ mid) p
-    → (n : ℕ) × SpellsAddress mid (sign n s.RightParenthesis ∷ rest) q → SpellsSimple k (fixed l w.Wait ∷ sign m s.LeftParenthesis ∷ ts) rest (waited l p q)
+    → (n : ℕ) × SpellsAddress mid (sign n s.RightParenthesis ∷ rest) q → SpellsSimple k (fixed l w.Wait ∷ sign m s.LeftParenthesis ∷ ts) rest (waited l p q [])
 wait_spelled k l m (at n a) ts mid rest p q e d f = g.wait (subst (λ (z : What). SpellsAddress ts (at n z ∷ mid) p) (is_sign_only s.Comma a e) d) f.1
+
+one_only : (a : What) → is_one a ≡ true → a ≡ What.Number 1
+one_only (What.Number n) e = ap (λ (m : ℕ). What.Number m) (eqb-true n 1 e)
+one_only _ e = absurd cc
+
+pub first_take_spelled : (t1 t2 : Item) (rest : List Item) (k : ℕ) → what_at t1 ≡ What.Number k → is_sign s.Comma (what_at t2) ≡ true → (l : ℕ) × Commas SpellsNumber (t1 ∷ t2 ∷ rest) (sign l s.Comma ∷ rest) (k ∷ [])
+first_take_spelled (at n a) (at i b) rest k q1 q2 = rw (q1, is_sign_only s.Comma b q2) (i, one number)
+
+-- one number more, and the comma behind it
+pub take_spelled : (t1 t2 : Item) (ts rest : List Item) (all : List ℕ) (k : ℕ) → what_at t1 ≡ What.Number k → is_sign s.Comma (what_at t2) ≡ true → (l : ℕ) × Commas SpellsNumber ts (sign l s.Comma ∷ t1 ∷ t2 ∷ rest) all
+    → (l : ℕ) × Commas SpellsNumber ts (sign l s.Comma ∷ rest) (all ++ k ∷ [])
+take_spelled (at n a) (at i b) ts rest all k q1 q2 d =
+    let first = subst (λ (z : What). Commas SpellsNumber ts (sign d.0 s.Comma ∷ at n z ∷ at i b ∷ rest) all) q1 d.1 in
+    (i, more (subst (λ (z : What). Commas SpellsNumber ts (sign d.0 s.Comma ∷ at n (What.Number k) ∷ at i z ∷ rest) all) (is_sign_only s.Comma b q2) first) number)
+
+-- the numbers, up to their end
+abbrev pub Takes : List Item → List Item → List ℕ → Type 0
+Takes ts rest all = (j g h d : ℕ) × Commas SpellsNumber ts (sign j s.Comma ∷ sign g s.Minus ∷ at h (What.Number 1) ∷ sign d s.RightParenthesis ∷ rest) all
+
+pub takes_spelled : (t1 t2 t3 : Item) (ts rest : List Item) (all : List ℕ) → is_sign s.Minus (what_at t1) ≡ true → is_one (what_at t2) ≡ true → is_sign s.RightParenthesis (what_at t3) ≡ true
+    → (l : ℕ) × Commas SpellsNumber ts (sign l s.Comma ∷ t1 ∷ t2 ∷ t3 ∷ rest) all → Takes ts rest all
+takes_spelled (at n a) (at i b) (at o c) ts rest all q1 q2 q3 d = (
+  d.0,
+  n,
+  i,
+  o,
+  subst (λ (z : What). Commas SpellsNumber ts (sign d.0 s.Comma ∷ sign n s.Minus ∷ at i (What.Number 1) ∷ at o z ∷ rest) all) (is_sign_only s.RightParenthesis c q3)
+      (subst (λ (z : What). Commas SpellsNumber ts (sign d.0 s.Comma ∷ sign n s.Minus ∷ at i z ∷ at o c ∷ rest) all) (one_only b q2)
+      (subst (λ (z : What). Commas SpellsNumber ts (sign d.0 s.Comma ∷ at n z ∷ at i b ∷ at o c ∷ rest) all) (is_sign_only s.Minus a q1) d.1)),
+)
+
+pub controlled_wait_spelled : (k : Kind) (l m : ℕ) (t1 t2 : Item) (ts mid next rest : List Item) (p q : Tall Place) (all : List ℕ) → is_sign s.Comma (what_at t1) ≡ true → is_sign s.Comma (what_at t2) ≡ true
+    → SpellsAddress ts (t1 ∷ mid) p → SpellsAddress mid (t2 ∷ next) q → Takes next rest all → SpellsSimple k (fixed l w.ControlledWait ∷ sign m s.LeftParenthesis ∷ ts) rest (waited l p q all)
+controlled_wait_spelled k l m (at n a) (at i b) ts mid next rest p q all q1 q2 x y z =
+    let one = subst (λ (w : What). SpellsAddress ts (at n w ∷ mid) p) (is_sign_only s.Comma a q1) x in
+    g.controlled_wait one (subst (λ (w : What). SpellsAddress mid (at i w ∷ next) q) (is_sign_only s.Comma b q2) y) z.4
 
 pub number_spelled : (R : List Item → Type 0) (t1 t2 : Item) (rest : List Item) (x : ℕ) → what_at t1 ≡ What.Number x → is_sign s.RightParenthesis (what_at t2) ≡ true
     → ((n i : ℕ) → R (at n (What.Number x) ∷ sign i s.RightParenthesis ∷ rest)) → R (t1 ∷ t2 ∷ rest)

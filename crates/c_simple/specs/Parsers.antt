@@ -2,7 +2,7 @@
 --
 -- The room r is how many levels may stand below the statement's own. So an expression in it may take r levels. What is read
 -- may take one more, where it ends in `( intptr_t )`: the token behind the statement is asked last whether it fits.
-use Rattle.std.specs.Prelude.{ℕ, zero, suc, max, Bool, true, ◌||◌, if◌then◌else◌, List, ◌∷◌, Option, Some, None, is_some}
+use Rattle.std.specs.Prelude.{ℕ, zero, suc, max, Bool, true, false, ◌||◌, if◌then◌else◌, List, [], ◌∷◌, ◌++◌, Option, Some, None, is_some}
 use Rattle.c_lexer.specs.declared.token.Sign.{Sign}
 use Rattle.c_lexer.specs.declared.token.Sign.TheVariants as s
 use Rattle.c_tree.specs.declared.expr.Op.{Op}
@@ -23,7 +23,7 @@ use Rattle.c_simple.specs.declared.token.Way.{Way}
 use Rattle.c_simple.specs.declared.token.Way.TheVariants as way
 use Rattle.c_simple.specs.declared.token.Routine.{Routine}
 use Rattle.c_simple.specs.declared.token.Routine.TheVariants as routine
-use Rattle.c_simple.specs.Words.{way_of, counter, routine_of, is_null, is_no_value, number_of, text_of, is_number_format}
+use Rattle.c_simple.specs.Words.{way_of, counter, routine_of, is_null, is_no_value, is_one, number_of, text_of, is_number_format}
 
 abbrev pub line_in : Item → ℕ
 line_in (at line what) = line
@@ -214,12 +214,40 @@ joined v r = place v r >>= null_closed v
 abbrev pub acting : {Token : Type 0} → (Place → Stmt) → Parser Token (Tall Place) → Parser Token (Tall (List Stmt))
 acting act p = p >>= λ x. pure (alone (act x.tree) x.levels)
 
-abbrev pub waited : ℕ → Tall Place → Tall Place → Tall (List Stmt)
-waited at_line p q = alone (lined.Wait at_line p.tree q.tree) (max p.levels q.levels)
+-- a condition, a mutex, and the monitors that tokens are taken of
+abbrev pub waited : ℕ → Tall Place → Tall Place → List ℕ → Tall (List Stmt)
+waited at_line p q takes = alone (lined.Wait at_line p.tree q.tree takes) (max p.levels q.levels)
 
 -- & place , & place )
 unfoldable pub wait : {Token : Type 0} → Sight Token → ℕ → ℕ → Parser Token (Tall (List Stmt))
-wait v r at_line = address v r >>= λ p. must (is v s.Comma) (addressed v r >>= λ q. pure (waited at_line p q))
+wait v r at_line = address v r >>= λ p. must (is v s.Comma) (addressed v r >>= λ q. pure (waited at_line p q []))
+
+-- one number more, and the comma behind it
+abbrev pub take_by : {Token : Type 0} → Sight Token → List ℕ → Token → Move Token (List ℕ)
+take_by v all u = go_with (λ k. must (is v s.Comma) (pure (all ++ k ∷ []))) (number_of (seen v u))
+
+-- K ,
+unfoldable pub first_take : {Token : Type 0} → Sight Token → Parser Token (List ℕ)
+first_take v = commit (take_by v []) refuse
+
+abbrev pub more_takes : {Token : Type 0} → Sight Token → List ℕ → Parser Token (List ℕ)
+more_takes v all = loop (take_by v) all
+
+abbrev pub is_one_at : {Token : Type 0} → Sight Token → Token → Bool
+is_one_at v u = is_one (seen v u)
+
+-- - 1 )
+unfoldable pub takes_end : {Token A : Type 0} → Sight Token → A → Parser Token A
+takes_end v x = must (is v s.Minus) (must (is_one_at v) (must (is v s.RightParenthesis) (pure x)))
+
+-- K , {K ,} - 1 )
+unfoldable pub takes : {Token : Type 0} → Sight Token → Parser Token (List ℕ)
+takes v = (first_take v >>= more_takes v) >>= takes_end v
+
+-- & place , & place , K , {K ,} - 1 )
+unfoldable pub controlled_wait : {Token : Type 0} → Sight Token → ℕ → ℕ → Parser Token (Tall (List Stmt))
+controlled_wait v r at_line =
+    address v r >>= λ p. must (is v s.Comma) (address v r >>= λ q. must (is v s.Comma) (takes v >>= λ all. pure (waited at_line p q all)))
 
 -- K )
 unfoldable pub monitor : {Token : Type 0} → Sight Token → Parser Token ℕ
@@ -288,6 +316,7 @@ library v r at_line routine.Signal = acting (lined.Signal at_line) (addressed v 
 library v r at_line routine.Broadcast = acting (lined.Broadcast at_line) (addressed v r)
 library v r at_line routine.Take = numbered v (lined.Take at_line)
 library v r at_line routine.Give = numbered v (lined.Give at_line)
+library v r at_line routine.ControlledWait = controlled_wait v r at_line
 
 -- ---- simple statements
 
@@ -374,6 +403,11 @@ begins_simple_at other = is_some (name_of other) || is_some (counter other)
 
 abbrev pub begins_simple : {Token : Type 0} → Sight Token → Token → Bool
 begins_simple v u = begins_simple_at (seen v u)
+
+-- a number comes
+abbrev pub number_comes : {Token : Type 0} → Sight Token → List Token → Bool
+number_comes v [] = false
+number_comes v (u ∷ rest) = is_some (number_of (seen v u))
 
 -- a comma comes
 abbrev pub comma_comes : {Token : Type 0} → Sight Token → List Token → Bool

@@ -49,6 +49,7 @@ routine_by null w.Signal = Some routine.Signal
 routine_by null w.Broadcast = Some routine.Broadcast
 routine_by null w.Take = Some routine.Take
 routine_by null w.Give = Some routine.Give
+routine_by null w.ControlledWait = Some routine.ControlledWait
 routine_by null other = None
 
 abbrev pub routine_of : Bool → What → Option Routine
@@ -66,6 +67,10 @@ abbrev pub is_no_value : What → Bool
 is_no_value (What.Fixed w.Null) = true
 is_no_value (What.Number value) = nat_eq value 0
 is_no_value other = false
+
+abbrev pub is_one : What → Bool
+is_one (What.Number value) = nat_eq value 1
+is_one other = false
 
 abbrev pub number_of : What → Option ℕ
 number_of (What.Number value) = Some value

@@ -9,6 +9,7 @@ pub mod declarations;
 pub mod library;
 pub mod results;
 pub mod simple;
+pub mod takes;
 pub mod token;
 pub mod trees;
 pub mod values;

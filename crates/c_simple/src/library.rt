@@ -11,6 +11,7 @@ ghost use Rattle.c_simple.specs.Gives.{GivesStatements, statements_of};
 ghost use Rattle.c_simple.specs.Parsers as spec;
 
 use crate::assignments::ParsedStatements;
+use crate::takes::takes;
 use crate::token::{Routine, format, is_null, is_number_format, number};
 use crate::trees::{Made, alone, created, printed, waited};
 use c_expressions::argument::argument;
@@ -233,7 +234,27 @@ fn wait<'a>(
     let (cond, rest) = address(alloc, setting, room, tokens)?;
     let (_, rest) = sign(setting, Sign::Comma, rest)?;
     let (mutex, rest) = addressed(alloc, setting, room, rest)?;
-    Ok((waited(alloc, line, cond, mutex)?, rest))
+    Ok((waited(alloc, line, cond, mutex, Items::new(alloc))?, rest))
+}
+
+// `& place , & place , K , {K ,} - 1 )`
+#[tactic(auto, unfolding(crate::specs::Parsers::controlled_wait))]
+fn controlled_wait<'a>(
+    alloc: Global,
+    setting: Setting,
+    room: u8,
+    line: u32,
+    tokens: &'a [Marked],
+) -> ParsedStatements<'a>
+    requires { room ≤ 64 }
+    ensures { GivesStatements result (spec.controlled_wait (sight setting.entry) room line tokens.now) }
+{
+    let (cond, rest) = address(alloc, setting, room, tokens)?;
+    let (_, rest) = sign(setting, Sign::Comma, rest)?;
+    let (mutex, rest) = address(alloc, setting, room, rest)?;
+    let (_, rest) = sign(setting, Sign::Comma, rest)?;
+    let (takes, rest) = takes(alloc, setting, rest)?;
+    Ok((waited(alloc, line, cond, mutex, takes)?, rest))
 }
 
 // A number, and `)`.
@@ -489,5 +510,6 @@ pub fn library<'a>(
         Routine::Broadcast => broadcast(alloc, setting, room, line, tokens),
         Routine::Take => take(alloc, setting, line, tokens),
         Routine::Give => give(alloc, setting, line, tokens),
+        Routine::ControlledWait => controlled_wait(alloc, setting, room, line, tokens),
     }
 }

@@ -52,6 +52,8 @@ pub enum Routine {
     Take,
     /// `gd_give`
     Give,
+    /// `gd_cond_wait`
+    ControlledWait,
 }
 
 /// How the token behind a place changes it.
@@ -103,6 +105,7 @@ fn called_word(null: bool, word: FixedWord) -> Option<Routine>
         FixedWord::Broadcast => Some(Routine::Broadcast),
         FixedWord::Take => Some(Routine::Take),
         FixedWord::Give => Some(Routine::Give),
+        FixedWord::ControlledWait => Some(Routine::ControlledWait),
         _ => None,
     }
 }
@@ -131,6 +134,16 @@ pub fn is_no_value(what: What) -> bool
     match what {
         What::Fixed(FixedWord::Null) => true,
         What::Number(value) => value == 0,
+        _ => false,
+    }
+}
+
+/// Whether a token is the number 1.
+pub fn is_one(what: What) -> bool
+    ensures { (text : List ℕ) → result ≡ spec.is_one (what_of text what) }
+{
+    match what {
+        What::Number(value) => value == 1,
         _ => false,
     }
 }

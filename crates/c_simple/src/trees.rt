@@ -11,7 +11,7 @@ ghost use Rattle.c_simple.specs.Parsers as spec;
 
 use crate::values::{Called, Source};
 use c_expressions::tall::Tall;
-use c_tree::{Act, Expr, Exprs, Name, Op, Place, Stmt, Stmts, copy_name};
+use c_tree::{Act, Expr, Exprs, Name, Numbers, Op, Place, Stmt, Stmts, copy_name};
 use sqlite_items::{Boxed, Items};
 use std::alloc::{AllocError, Global};
 
@@ -248,16 +248,23 @@ pub fn created(
     alone(alloc, line, act, below)
 }
 
-/// `pthread_cond_wait`
-pub fn waited(alloc: Global, line: u32, cond: Tall<Place>, mutex: Tall<Place>) -> Made
+/// `pthread_cond_wait`, or `gd_cond_wait` where it takes tokens
+pub fn waited(
+    alloc: Global,
+    line: u32,
+    cond: Tall<Place>,
+    mutex: Tall<Place>,
+    takes: Numbers,
+) -> Made
     requires cond { cond.levels < 200 }
     requires mutex { mutex.levels < 200 }
-    ensures { IfOk result (λ x. tall_of statements_of x ≡ spec.waited line (tall_of place_of cond) (tall_of place_of mutex)) }
+    ensures { IfOk result (λ x. tall_of statements_of x ≡ spec.waited line (tall_of place_of cond) (tall_of place_of mutex) takes) }
 {
     let below = cond.levels.max(mutex.levels);
     let act = Act::Wait {
         cond: cond.tree,
         mutex: mutex.tree,
+        takes,
     };
     alone(alloc, line, act, below)
 }

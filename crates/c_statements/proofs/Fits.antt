@@ -1,29 +1,35 @@
 -- What the parser reads takes no more levels than its room has.
-use Rattle.std.proofs.Common.{◌≡◌, ℕ, zero, suc, ◌≤◌, Bool, true, false, cond, List, ◌∷◌, refl, ap, arith}
+use Rattle.std.proofs.Common.{◌≡◌, ℕ, zero, suc, ◌-◌, ◌<◌, ◌≤◌, Bool, true, false, cond, List, ◌∷◌, refl, ap, arith}
 use Rattle.std.proofs.lemmas.Bool.{ltb-true}
 use Rattle.c_lexer.specs.declared.token.Sign.{Sign}
 use Rattle.c_lexer.specs.declared.token.Sign.TheVariants as s
 use Rattle.c_tree.specs.declared.program.Kind.{Kind}
 use Rattle.c_tree.specs.declared.program.Kind.TheVariants as kinds
 use Rattle.c_tree.specs.Expressions as tree
-use Rattle.c_tree.specs.Expressions.{Expr}
+use Rattle.c_tree.specs.Expressions.{Expr, Place}
 use Rattle.c_tree.specs.Lined.{Stmt}
 use Rattle.c_grammar.specs.Levels.{Tall, tall, nothing, followed}
-use Rattle.c_grammar.specs.Statements.{Body}
+use Rattle.c_grammar.specs.Statements.{Choice, Body}
 use Rattle.parse_laws.specs.Parser.{Parser, pure, Move, Stop, Deep, Go}
 use Rattle.parse_laws.proofs.Sound.{Sound, SoundMove, stop_sound, deep_sound, go_sound, pure_sound, refuse_sound, sound_map, bind_sound, and_go_sound, commit_sound, token_sound, when_sound, many_sound, loop_sound}
 use Rattle.c_expressions.specs.Parsers.{Sight, seen, is, fits, fitting, close, expression}
+use Rattle.c_expressions.proofs.Closers.{fits_le}
+use Rattle.c_expressions.proofs.Fits.{address_fits}
 use Rattle.c_expressions.proofs.Sounds.{close_sound, named_sound, deeper_sound}
 use Rattle.c_simple.specs.Parsers.{line, step_by, begins_simple}
 use Rattle.c_simple.proofs.Begins.{simple_fits, step_fits}
 use Rattle.c_statements.specs.declared.word.Opening.{Opening}
 use Rattle.c_statements.specs.declared.word.Opening.TheVariants as o
+use Rattle.c_statements.specs.declared.word.Question.{Question}
+use Rattle.c_statements.specs.declared.word.Question.TheVariants as question
+use Rattle.c_statements.specs.declared.word.Comparison.{Comparison}
+use Rattle.c_statements.specs.declared.word.Comparison.TheVariants as comparison
 use Rattle.c_statements.specs.declared.word.Start.{Start}
 use Rattle.c_statements.specs.declared.word.Start.TheVariants as f
 use Rattle.c_statements.specs.declared.word.Thread.{Thread}
 use Rattle.c_statements.specs.declared.word.Thread.TheVariants as t
-use Rattle.c_statements.specs.Words.{statement_opening, first_start, thread_opening, is_else}
-use Rattle.c_statements.specs.Parsers.{condition, declared, first_by, first, middle, last, block, arm, choice, repetition, counting, statement_in, statement_by, empty_body, stated, stated_by, with_slots_by, static_threads, threads, main_by, body_by, body}
+use Rattle.c_statements.specs.Words.{statement_opening, asks, behind_try, is_try, first_start, thread_opening, is_else}
+use Rattle.c_statements.specs.Parsers.{condition, as_value, valued, tried, compared_by, compared, plain, negated, behind_not, asked_by, asked, trial, declared, first_by, first, middle, last, block, arm, choice, repetition, counting, statement_in, statement_by, empty_body, stated, stated_by, with_slots_by, static_threads, threads, main_by, body_by, body}
 use Rattle.c_statements.proofs.Sounds.{move_map}
 
 module _ {Token : Type 0} (v : Sight Token) where
@@ -50,6 +56,59 @@ module _ {Token : Type 0} (v : Sight Token) where
   condition_fits : (r : ℕ) → Sound (condition v r) (Low r)
   unfolding condition
   condition_fits r = token_sound (λ u q. bind_sound any (λ e. sound_map (λ mid rest b y ts z. let le = ap (λ (x : Tall Expr). x.levels) y.0 in omega (arith, le, y.1)) (close_fits s.RightParenthesis r e.levels e)))
+
+  -- ---- what `if` tests
+
+  valued_fits : (r : ℕ) → Sound (valued v r) (Low r)
+  valued_fits r = bind_sound {p = expression v r} any (λ e. sound_map (λ mid rest b y ts z. let le = ap (λ (x : Tall Choice). x.levels) y.0 in omega (arith, le, y.1)) (close_fits s.RightParenthesis r e.levels (as_value e)))
+
+  tried_fits : (r : ℕ) → Sound (tried v r) (Low r)
+  unfolding tried
+  tried_fits r = bind_sound {R = Low r} (record { spelled = λ ts p rest e. fits_le r p.levels (address_fits v r ts p rest e) }) (λ p. token_sound (λ u q. pure_sound (λ rest ts y. y)))
+
+  compared_fits : (p : Tall Place) → Sound (compared v p) (Low (suc p.levels))
+  unfolding compared
+  compared_fits p = commit_sound (λ w. go w (behind_try (seen v w))) refuse_sound
+    where
+      go : (w : Token) (x : Comparison) → SoundMove (λ mid rest y. Low (suc p.levels) (w ∷ mid) rest y) (compared_by v p x)
+      go w comparison.End = go_sound (pure_sound (λ rest. omega arith))
+      go w comparison.Equal = go_sound (token_sound (λ a e. token_sound (λ b f. pure_sound (λ rest. omega arith))))
+      go w comparison.NotEqual = go_sound (token_sound (λ a e. token_sound (λ b f. pure_sound (λ rest. omega arith))))
+      go w comparison.Other = stop_sound
+
+  plain_fits : (r : ℕ) → 0 < r → (u : Token) → Sound (plain v r u) (Low r)
+  unfolding plain
+  plain_fits r lt u =
+      commit_sound (λ t. when_sound (is v s.LeftParenthesis t) (λ e. bind_sound (tried_fits (r - 1)) (λ p. sound_map (λ mid rest x y ts z. omega (arith, lt, y, z)) (compared_fits p))))
+      (record { spelled = λ mid x rest e. (valued_fits r).spelled (u ∷ mid) x rest e })
+
+  negated_fits : (r : ℕ) → 1 < r → (u t : Token) → Sound (negated v r u t) (Low r)
+  unfolding negated
+  negated_fits r lt u t =
+      commit_sound (λ w. when_sound (is v s.LeftParenthesis w) (λ e. bind_sound (tried_fits (r - 2)) (λ p. token_sound (λ a f. pure_sound (λ rest ts z. omega (arith, lt, z))))))
+      (record { spelled = λ mid x rest e. (valued_fits r).spelled (u ∷ t ∷ mid) x rest e })
+
+  behind_not_fits : (r : ℕ) → 1 < r → (u : Token) → Sound (behind_not v r u) (Low r)
+  unfolding behind_not
+  behind_not_fits r lt u = commit_sound (λ t. when_sound (is_try (seen v t)) (λ c. sound_map (λ mid rest x y. y) (negated_fits r lt u t))) (record { spelled = λ mid x rest e. (valued_fits r).spelled (u ∷ mid) x rest e })
+
+  asked_fits : (r : ℕ) → Sound (asked v r) (Low r)
+  unfolding asked
+  asked_fits r = commit_sound (λ u. go r u (asks (seen v u))) (valued_fits r)
+    where
+      go : (r : ℕ) (u : Token) (x : Question) → SoundMove (λ mid rest y. Low r (u ∷ mid) rest y) (asked_by v r u x)
+      go zero u question.TryLock = deep_sound
+      go (suc m) u question.TryLock = go_sound (sound_map (λ mid rest x y. y) (plain_fits (suc m) (omega arith) u))
+      go zero u question.Not = deep_sound
+      go (suc zero) u question.Not = deep_sound
+      go (suc (suc m)) u question.Not = go_sound (sound_map (λ mid rest x y. y) (behind_not_fits (suc (suc m)) (omega arith) u))
+      go r u question.Expression = stop_sound
+
+  trial_fits : (r : ℕ) → Sound (trial v r) (Low r)
+  unfolding trial
+  trial_fits r = token_sound (λ u q. sound_map (λ mid rest x y. y) (asked_fits r))
+
+  -- ---- the parts of a `for`
 
   declared_fits : (r : ℕ) → Sound (declared v r) (Low (suc r))
   unfolding declared
@@ -101,7 +160,7 @@ module _ {Token : Type 0} (v : Sight Token) where
       choice_fits : (at_line : ℕ) → Sound (choice v r lower at_line) (Low (suc r))
       unfolding choice
       choice_fits at_line =
-          bind_sound (condition_fits r) (λ e. bind_sound arm_fits (λ one. commit_sound
+          bind_sound (trial_fits r) (λ e. bind_sound arm_fits (λ one. commit_sound
           (λ w. when_sound (is_else (seen v w)) (λ q. bind_sound arm_fits (λ two. pure_sound (λ rest next z mid y ts x. omega (arith, x, y, z)))))
           (pure_sound (λ rest mid y ts x. omega (arith, x, y)))))
 

@@ -1,39 +1,43 @@
 -- What is spelled is read: statements, their parts and their arms.
-use Rattle.std.proofs.Common.{◌≡◌, ℕ, zero, suc, ◌-◌, ◌≤◌, Bool, true, false, cond, List, [], ◌∷◌, Some, refl, sym, ap, subst, ◌∙◌, inl, inr, ◌⊎◌, arith}
+use Rattle.std.proofs.Common.{◌≡◌, ℕ, zero, suc, ◌-◌, ◌≤◌, Bool, true, false, cond, List, [], ◌∷◌, map, Some, refl, sym, ap, subst, ◌∙◌, inl, inr, ◌⊎◌, arith}
 use Rattle.c_lexer.specs.declared.token.Sign.{Sign}
 use Rattle.c_lexer.specs.declared.token.Sign.TheVariants as s
 use Rattle.c_tree.specs.declared.program.Kind.{Kind}
 use Rattle.c_tree.specs.Expressions as tree
-use Rattle.c_tree.specs.Expressions.{Expr}
+use Rattle.c_tree.specs.Expressions.{Expr, Place}
 use Rattle.c_tree.specs.Lined as lined
 use Rattle.c_tree.specs.Lined.{Stmt}
 use Rattle.c_grammar.specs.declared.words.FixedWord.TheVariants as w
 use Rattle.c_grammar.specs.Items.{What, Item, at, sign, fixed, name_of}
 use Rattle.c_grammar.specs.Levels.{Tall, tall, nothing, alone, followed}
-use Rattle.c_grammar.specs.Expressions.{SpellsWhole}
+use Rattle.c_grammar.specs.Expressions.{SpellsWhole, SpellsAddress}
 use Rattle.c_grammar.specs.Statements as g
-use Rattle.c_grammar.specs.Statements.{SpellsFirst, SpellsTest, SpellsLast, SpellsStatement, SpellsArm, SpellsList, chosen, repeated, counted}
+use Rattle.c_grammar.specs.Statements.{SpellsFirst, SpellsTest, SpellsLast, Choice, SpellsTry, SpellsChoice, SpellsStatement, SpellsArm, SpellsList, chosen, repeated, counted}
 use Rattle.c_grammar.specs.Heads.{begins_expression}
 use Rattle.c_grammar.proofs.Beginnings.{expression_begins}
 use Rattle.parse_laws.specs.Parser.{Got, ◌>>=◌, pure, refuse, Move, Stop, Go, moved, commit, when, must, many, one_more}
 use Rattle.parse_laws.proofs.Loops.{many_reads}
-use Rattle.parse_laws.proofs.Finds.{Reaches, Halts, pure_finds, commit_finds, other_finds, none_finds, bind_finds, loop_finds, reaches_itself}
+use Rattle.parse_laws.proofs.Finds.{Reaches, Halts, pure_finds, commit_finds, must_finds, other_finds, none_finds, bind_finds, loop_finds, reaches_itself}
 use Rattle.c_expressions.specs.Honest.{Honest}
 use Rattle.c_expressions.specs.Words.{same_sign}
-use Rattle.c_expressions.specs.Parsers.{Sight, seen, is, named, fits, close, expression}
+use Rattle.c_expressions.specs.Parsers.{Sight, seen, is, named, fits, close, expression, address}
+use Rattle.c_expressions.proofs.FoundParts.{address_finds}
 use Rattle.c_expressions.proofs.Found.{F, is_at, close_finds, sign_finds, fits_true, expression_tall, expression_finds}
 use Rattle.c_simple.specs.Parsers.{line, line_in, step_by, simple_by}
 use Rattle.c_simple.proofs.Found.{simple_finds, step_finds}
 use Rattle.c_simple.proofs.Begins.{simple_stops, step_stops}
 use Rattle.c_statements.specs.declared.word.Opening.{Opening}
 use Rattle.c_statements.specs.declared.word.Opening.TheVariants as o
+use Rattle.c_statements.specs.declared.word.Question.{Question}
+use Rattle.c_statements.specs.declared.word.Question.TheVariants as question
 use Rattle.c_statements.specs.declared.word.Start.{Start}
 use Rattle.c_statements.specs.declared.word.Start.TheVariants as f
-use Rattle.c_statements.specs.Words.{statement_opening, first_start}
-use Rattle.c_statements.specs.Parsers.{tested, condition, initial_value, declared, first_by, first, given_test, middle, last_by, last, block, arm_by, arm, second_arm, else_by, else_arm, choice, repetition, counted_arm, counted_parts, counting, statement_by}
+use Rattle.c_statements.specs.Words.{statement_opening, asks, behind_try, is_try, is_zero, first_start}
+use Rattle.c_statements.specs.Parsers.{tested, condition, as_value, as_busy, as_taken, as_negated, valued, tried, zero_behind, compared_by, compared, uncompared, plain, negated, behind_not, asked_by, asked, trial, initial_value, declared, first_by, first, given_test, middle, last_by, last, block, arm_by, arm, second_arm, else_by, else_arm, choice, repetition, counted_arm, counted_parts, counting, statement_by}
 use Rattle.c_statements.proofs.Shorter.{statement_shrinks}
 use Rattle.c_statements.proofs.Openings.{empty_is, if_is, while_is, for_is, simple_is, statement_stops}
-use Rattle.c_statements.proofs.Tokens.{nothing_steps, int_steps, parenthesis_steps, other_opening, brace_begins, expression_head, NoElse, Allowed, allowed, statement_no_else, simple_tall}
+use Rattle.c_statements.proofs.Spelled.{asks_try_at, asks_not_at, try_at, sign_at}
+use Rattle.c_statements.proofs.Tokens.{no_open, word_open, not_word_open, not_tall, nothing_steps, int_steps, parenthesis_steps, other_opening, brace_begins, expression_head, NoElse, Allowed, allowed, statement_no_else, simple_tall}
 
 -- Two choices answer alike where each token of the second either does what it does in the first, or stops.
 module _ {Token Item A : Type 0} (see : Token → Item) where
@@ -58,7 +62,7 @@ module _ {Token : Type 0} (v : Sight Token) (honest : Honest v) where
   abbrev done : {A : Type 0} → (after : List Item) (a : A) → F v (pure a) after after a
   done after a = pure_finds v.item after a
 
-  -- ---- what is tested
+  -- ---- what `while` tests
 
   ended_finds : {A : Type 0} (x : Sign) (make : Tall Expr → A) (r n : ℕ) (ts after : List Item) (e : Tall Expr) → F v (expression v r) ts (sign n x ∷ after) e → e.levels ≤ r
       → F v (expression v r >>= λ e. close v x (fits r e.levels) (pure (make e))) ts after (make e)
@@ -69,6 +73,158 @@ module _ {Token : Type 0} (v : Sight Token) (honest : Honest v) where
   condition_finds : (m n r : ℕ) {ts mid : List Item} {e : Tall Expr} → SpellsWhole ts (sign n s.RightParenthesis ∷ mid) e → e.levels ≤ r → F v (condition v r) (sign m s.LeftParenthesis ∷ ts) mid e
   unfolding condition
   condition_finds m n r {ts} {mid} {e} d le = sign_finds v s.LeftParenthesis (tested v r) m ts mid e (ended_finds s.RightParenthesis (λ e. e) r n ts mid e (expression_finds v honest d refl r le) le)
+
+  -- ---- what `if` tests
+
+  valued_finds : (n r : ℕ) {ts mid : List Item} {e : Tall Expr} → SpellsWhole ts (sign n s.RightParenthesis ∷ mid) e → e.levels ≤ r → F v (valued v r) ts mid (as_value e)
+  valued_finds n r {ts} {mid} {e} d le = ended_finds s.RightParenthesis as_value r n ts mid e (expression_finds v honest d refl r le) le
+
+  -- a derivation over tokens that are seen so
+  told : {n : ℕ} {mid : List Item} {e : Tall Expr} {a b : List Item} → a ≡ b → SpellsWhole b (sign n s.RightParenthesis ∷ mid) e → SpellsWhole a (sign n s.RightParenthesis ∷ mid) e
+  told {n} {mid} {e} q d = subst (λ (ts : List Item). SpellsWhole ts (sign n s.RightParenthesis ∷ mid) e) (sym q) d
+
+  module _ (n r : ℕ) (mid : List Item) (e : Tall Expr) (le : e.levels ≤ r) where
+    plain_value : (u : Token) (zs : List Token) → asks (seen v u) ≡ question.TryLock → SpellsWhole (map v.item (u ∷ zs)) (sign n s.RightParenthesis ∷ mid) e → plain v r u zs ≡ valued v r (u ∷ zs)
+    unfolding plain
+    plain_value u [] a d = refl
+    plain_value u (t ∷ zs) a d = go (is v s.LeftParenthesis t) refl
+      where
+        go : (b : Bool) → is v s.LeftParenthesis t ≡ b → moved (when b (tried v (r - 1) >>= compared v)) (λ ts. valued v r (u ∷ ts)) t zs ≡ valued v r (u ∷ t ∷ zs)
+        go false c = refl
+        go true c = absurd (no_open (word_open (told (ends (asks_try_at (v.item u) a) (sign_at s.LeftParenthesis (v.item t) c)) d)))
+          where
+            ends : v.item u ≡ fixed (line v u) w.TryLock → v.item t ≡ sign (line v t) s.LeftParenthesis → fixed (line v u) w.TryLock ∷ sign (line v t) s.LeftParenthesis ∷ map v.item zs ≡ v.item u ∷ v.item t ∷ map v.item zs
+            ends p q = rw (p, q) refl
+
+    negated_value : (u t : Token) (zs : List Token) → asks (seen v u) ≡ question.Not → is_try (seen v t) ≡ true → SpellsWhole (map v.item (u ∷ t ∷ zs)) (sign n s.RightParenthesis ∷ mid) e → negated v r u t zs ≡ valued v r (u ∷ t ∷ zs)
+    unfolding negated
+    negated_value u t [] a b d = refl
+    negated_value u t (x ∷ zs) a b d = go (is v s.LeftParenthesis x) refl
+      where
+        go : (y : Bool) → is v s.LeftParenthesis x ≡ y → moved (when y (tried v (r - 2) >>= uncompared v)) (λ ts. valued v r (u ∷ t ∷ ts)) x zs ≡ valued v r (u ∷ t ∷ x ∷ zs)
+        go false c = refl
+        go true c = absurd (no_open (not_word_open (told (ends (asks_not_at (v.item u) a) (try_at (v.item t) b) (sign_at s.LeftParenthesis (v.item x) c)) d)))
+          where
+            ends : v.item u ≡ sign (line v u) s.Not → v.item t ≡ fixed (line v t) w.TryLock → v.item x ≡ sign (line v x) s.LeftParenthesis
+                → sign (line v u) s.Not ∷ fixed (line v t) w.TryLock ∷ sign (line v x) s.LeftParenthesis ∷ map v.item zs ≡ v.item u ∷ v.item t ∷ v.item x ∷ map v.item zs
+            ends p q o = rw (p, q, o) refl
+
+    not_value : (u : Token) (zs : List Token) → asks (seen v u) ≡ question.Not → SpellsWhole (map v.item (u ∷ zs)) (sign n s.RightParenthesis ∷ mid) e → behind_not v r u zs ≡ valued v r (u ∷ zs)
+    unfolding behind_not
+    not_value u [] a d = refl
+    not_value u (t ∷ zs) a d = go (is_try (seen v t)) refl
+      where
+        go : (b : Bool) → is_try (seen v t) ≡ b → moved (when b (negated v r u t)) (λ ts. valued v r (u ∷ ts)) t zs ≡ valued v r (u ∷ t ∷ zs)
+        go false c = refl
+        go true c = negated_value u t zs a c d
+
+    -- an expression is read as one
+    asked_value : (zs : List Token) → SpellsWhole (map v.item zs) (sign n s.RightParenthesis ∷ mid) e → asked v r zs ≡ valued v r zs
+    unfolding asked
+    asked_value [] d = refl
+    asked_value (u ∷ zs) d = go r le (asks (seen v u)) refl (λ a. plain_value u zs a d) (λ a. not_value u zs a d)
+      where
+        not_low : asks (seen v u) ≡ question.Not → 2 ≤ e.levels
+        not_low a = not_tall (told (ends (asks_not_at (v.item u) a)) d)
+          where
+            ends : v.item u ≡ sign (line v u) s.Not → sign (line v u) s.Not ∷ map v.item zs ≡ v.item u ∷ map v.item zs
+            ends p = rw p refl
+
+        go : (r : ℕ) → e.levels ≤ r → (x : Question) → asks (seen v u) ≡ x → (asks (seen v u) ≡ question.TryLock → plain v r u zs ≡ valued v r (u ∷ zs)) → (asks (seen v u) ≡ question.Not → behind_not v r u zs ≡ valued v r (u ∷ zs))
+            → moved (asked_by v r u x) (valued v r) u zs ≡ valued v r (u ∷ zs)
+        go r le question.Expression a h i = refl
+        go zero le question.TryLock a h i = let up = expression_tall d in absurd (omega (arith, le, up))
+        go (suc m) le question.TryLock a h i = h a
+        go zero le question.Not a h i = let up = not_low a in absurd (omega (arith, le, up))
+        go (suc zero) le question.Not a h i = let up = not_low a in absurd (omega (arith, le, up))
+        go (suc (suc m)) le question.Not a h i = i a
+
+  value_finds : (n r : ℕ) {ts mid : List Item} {e : Tall Expr} → SpellsWhole ts (sign n s.RightParenthesis ∷ mid) e → e.levels ≤ r → F v (asked v r) ts mid (as_value e)
+  value_finds n r {ts} {mid} {e} d le zs q = let y = valued_finds n r d le zs q in (y.0, y.1, asked_value n r mid e le zs (told q d) ∙ y.2)
+
+  tried_finds : (n r : ℕ) {ts mid : List Item} {p : Tall Place} → SpellsAddress ts (sign n s.RightParenthesis ∷ mid) p → p.levels ≤ r → F v (tried v r) ts mid p
+  unfolding tried
+  tried_finds n r {ts} {mid} {p} d le =
+      bind_finds v.item (address v r) (λ p. must (is v s.RightParenthesis) (pure p)) ts (sign n s.RightParenthesis ∷ mid) mid p p (address_finds v honest d refl r le) (sign_finds v s.RightParenthesis (pure p) n mid mid p (done mid p))
+
+  -- what stands behind a trylock
+  abbrev ways : Tall Place → Token → Move Token (Tall Choice)
+  ways p u = compared_by v p (behind_try (seen v u))
+
+  end_finds : (n : ℕ) (p : Tall Place) (mid : List Item) → F v (compared v p) (sign n s.RightParenthesis ∷ mid) mid (as_busy p)
+  unfolding compared
+  end_finds n p mid = commit_finds v.item (ways p) refuse (sign n s.RightParenthesis) mid mid (as_busy p) (λ u q. (pure (as_busy p), rw q refl, done mid (as_busy p)))
+
+  zero_finds : (m n : ℕ) (x : Tall Choice) (mid : List Item) → F v (zero_behind v x) (at m (What.Number 0) ∷ sign n s.RightParenthesis ∷ mid) mid x
+  zero_finds m n x mid =
+      must_finds v.item (λ u. is_zero (seen v u)) (must (is v s.RightParenthesis) (pure x)) (at m (What.Number 0)) (sign n s.RightParenthesis ∷ mid) mid x (λ u q. rw q refl) (sign_finds v s.RightParenthesis (pure x) n mid mid x (done mid x))
+
+  equal_finds : (l m n : ℕ) (p : Tall Place) (mid : List Item) → F v (compared v p) (sign l s.Equal ∷ at m (What.Number 0) ∷ sign n s.RightParenthesis ∷ mid) mid (as_taken p)
+  unfolding compared
+  equal_finds l m n p mid =
+      commit_finds v.item (ways p) refuse (sign l s.Equal) (at m (What.Number 0) ∷ sign n s.RightParenthesis ∷ mid) mid (as_taken p) (λ u q. (zero_behind v (as_taken p), rw q refl, zero_finds m n (as_taken p) mid))
+
+  other_finds_zero : (l m n : ℕ) (p : Tall Place) (mid : List Item) → F v (compared v p) (sign l s.NotEqual ∷ at m (What.Number 0) ∷ sign n s.RightParenthesis ∷ mid) mid (as_busy p)
+  unfolding compared
+  other_finds_zero l m n p mid =
+      commit_finds v.item (ways p) refuse (sign l s.NotEqual) (at m (What.Number 0) ∷ sign n s.RightParenthesis ∷ mid) mid (as_busy p) (λ u q. (zero_behind v (as_busy p), rw q refl, zero_finds m n (as_busy p) mid))
+
+  abbrev starting : ℕ → Token → Move Token (Tall Choice)
+  starting r u = asked_by v r u (asks (seen v u))
+
+  -- a trylock, and what stands behind it
+  plain_finds : (r : ℕ) {ts behind mid : List Item} {p : Tall Place} {x : Tall Choice} → SpellsTry ts behind p → p.levels ≤ r → F v (compared v p) behind mid x → F v (asked v (suc r)) ts mid x
+  unfolding asked plain
+  plain_finds r {ts} {behind} {mid} {p} {x} (g.try {l = i} {m = j} {n = n} {ts = inside} d) le h =
+      commit_finds v.item (starting (suc r)) (valued v (suc r)) (fixed i w.TryLock) (sign j s.LeftParenthesis ∷ inside) mid x (λ u q. (
+        plain v (suc r) u,
+        rw q refl,
+        commit_finds v.item (λ t. when (is v s.LeftParenthesis t) (tried v (suc r - 1) >>= compared v)) (λ ts. valued v (suc r) (u ∷ ts)) (sign j s.LeftParenthesis) inside mid x (λ t o. (
+          tried v (suc r - 1) >>= compared v,
+          rw (is_at v s.LeftParenthesis j t o) refl,
+          bind_finds v.item (tried v (suc r - 1)) (compared v) inside behind mid p x (tried_finds n (suc r - 1) d (omega (arith, le))) h,
+        )),
+      ))
+
+  negated_finds : (k n r : ℕ) {ts mid : List Item} {p : Tall Place} → SpellsTry ts (sign n s.RightParenthesis ∷ mid) p → p.levels ≤ r → F v (asked v (suc (suc r))) (sign k s.Not ∷ ts) mid (as_negated p)
+  unfolding asked behind_not negated
+  negated_finds k n r {ts} {mid} {p} (g.try {l = i} {m = j} {n = h} {ts = inside} d) le =
+      let room : ℕ = suc (suc r) in
+      commit_finds v.item (starting room) (valued v room) (sign k s.Not) (fixed i w.TryLock ∷ sign j s.LeftParenthesis ∷ inside) mid (as_negated p) (λ u q. (
+        behind_not v room u,
+        rw q refl,
+        commit_finds v.item (λ t. when (is_try (seen v t)) (negated v room u t)) (λ ts. valued v room (u ∷ ts)) (fixed i w.TryLock) (sign j s.LeftParenthesis ∷ inside) mid (as_negated p) (λ t o. (
+          negated v room u t,
+          rw o refl,
+          commit_finds v.item (λ x. when (is v s.LeftParenthesis x) (tried v (room - 2) >>= uncompared v)) (λ ts. valued v room (u ∷ t ∷ ts)) (sign j s.LeftParenthesis) inside mid (as_negated p) (λ x y. (
+            tried v (room - 2) >>= uncompared v,
+            rw (is_at v s.LeftParenthesis j x y) refl,
+            bind_finds v.item (tried v (room - 2)) (uncompared v) inside (sign n s.RightParenthesis ∷ mid) mid p (as_negated p) (tried_finds h (room - 2) d (omega (arith, le))) (sign_finds v s.RightParenthesis (pure (as_negated p)) n mid mid (as_negated p) (done mid (as_negated p))),
+          )),
+        )),
+      ))
+
+  -- all that an `if` may test
+  asked_finds : (n r : ℕ) {ts mid : List Item} {x : Tall Choice} → SpellsChoice ts (sign n s.RightParenthesis ∷ mid) x → x.levels ≤ r → F v (asked v r) ts mid x
+  asked_finds n r (g.value d) le = value_finds n r d le
+  asked_finds n zero (g.tried d) le = absurd (omega (arith, le))
+  asked_finds n (suc r) {mid = mid} (g.tried {p = p} d) le = plain_finds r d (omega (arith, le)) (end_finds n p mid)
+  asked_finds n zero (g.not_tried d) le = absurd (omega (arith, le))
+  asked_finds n (suc zero) (g.not_tried d) le = absurd (omega (arith, le))
+  asked_finds n (suc (suc r)) (g.not_tried {l = l} d) le = negated_finds l n r d (omega (arith, le))
+  asked_finds n zero (g.zero d) le = absurd (omega (arith, le))
+  asked_finds n (suc r) {mid = mid} (g.zero {l = l} {m = m} {p = p} d) le = plain_finds r d (omega (arith, le)) (equal_finds l m n p mid)
+  asked_finds n zero (g.other d) le = absurd (omega (arith, le))
+  asked_finds n (suc r) {mid = mid} (g.other {l = l} {m = m} {p = p} d) le = plain_finds r d (omega (arith, le)) (other_finds_zero l m n p mid)
+
+  trial_finds : (m n r : ℕ) {ts mid : List Item} {x : Tall Choice} → SpellsChoice ts (sign n s.RightParenthesis ∷ mid) x → x.levels ≤ r → F v (trial v r) (sign m s.LeftParenthesis ∷ ts) mid x
+  unfolding trial
+  trial_finds m n r {ts} {mid} {x} d le = sign_finds v s.LeftParenthesis (asked v r) m ts mid x (asked_finds n r d le)
+
+  -- what an `if` tests takes a level
+  choice_tall : {ts rest : List Item} {x : Tall Choice} → SpellsChoice ts rest x → 1 ≤ x.levels
+  choice_tall (g.value d) = expression_tall d
+  choice_tall _ = omega arith
 
   -- ---- the parts of a `for`, with the sign behind them
 
@@ -197,18 +353,18 @@ module _ {Token : Type 0} (v : Sight Token) (honest : Honest v) where
         (loop_finds v.item (many (Lower room) followed nothing) (one_more (Lower room) followed) ts (sign n s.RightBrace ∷ after) all h (λ u e. rw (statement_stops v kind room u (rw e refl)) refl))
         (sign_finds v s.RightBrace (pure all) n after after all (done after all))
 
-    else_halts : (room l : ℕ) (e : Tall Expr) (one : Tall (List Stmt)) (after : List Item) → NoElse after → Halts v.item (else_by v (Lower room) l e one) after
+    else_halts : (room l : ℕ) (e : Tall Choice) (one : Tall (List Stmt)) (after : List Item) → NoElse after → Halts v.item (else_by v (Lower room) l e one) after
     else_halts room l e one [] h = tt
     else_halts room l e one (t ∷ after) h = λ u q. rw (q, h) refl
 
-    choice_finds : (r l m n : ℕ) {ts mid next after : List Item} {e : Tall Expr} {one x : Tall (List Stmt)} → SpellsWhole ts (sign n s.RightParenthesis ∷ mid) e → e.levels ≤ r
+    choice_finds : (r l m n : ℕ) {ts mid next after : List Item} {e : Tall Choice} {one x : Tall (List Stmt)} → SpellsChoice ts (sign n s.RightParenthesis ∷ mid) e → e.levels ≤ r
         → F v (arm v (Lower r)) mid next one → F v (else_arm v (Lower r) l e one) next after x → F v (choice v r (Lower r) l) (sign m s.LeftParenthesis ∷ ts) after x
     unfolding choice
     choice_finds r l m n {ts} {mid} {next} {after} {e} {one} {x} d le a b =
-        bind_finds v.item (condition v r) (λ e. arm v (Lower r) >>= λ one. else_arm v (Lower r) l e one) (sign m s.LeftParenthesis ∷ ts) mid after e x (condition_finds m n r d le)
+        bind_finds v.item (trial v r) (λ e. arm v (Lower r) >>= λ one. else_arm v (Lower r) l e one) (sign m s.LeftParenthesis ∷ ts) mid after e x (trial_finds m n r d le)
         (bind_finds v.item (arm v (Lower r)) (λ one. else_arm v (Lower r) l e one) mid next after one x a b)
 
-    both_finds : (r l i : ℕ) (e : Tall Expr) (one two : Tall (List Stmt)) {next after : List Item} → F v (arm v (Lower r)) next after two → F v (else_arm v (Lower r) l e one) (fixed i w.Else ∷ next) after (chosen l e one two)
+    both_finds : (r l i : ℕ) (e : Tall Choice) (one two : Tall (List Stmt)) {next after : List Item} → F v (arm v (Lower r)) next after two → F v (else_arm v (Lower r) l e one) (fixed i w.Else ∷ next) after (chosen l e one two)
     both_finds r l i e one two {next} {after} a =
         commit_finds v.item (else_by v (Lower r) l e one) (pure (chosen l e one nothing)) (fixed i w.Else) next after (chosen l e one two)
         (λ u q. (second_arm v (Lower r) l e one, rw q refl, bind_finds v.item (arm v (Lower r)) (λ two. pure (chosen l e one two)) next after after two (chosen l e one two) a (done after (chosen l e one two))))
@@ -247,8 +403,8 @@ module _ {Token : Type 0} (v : Sight Token) (honest : Honest v) where
       statement_found {ts = ts} {after = after} {x = x} (g.simple {l = l} d) (suc r) le h = agrees v.item (Lower (suc r)) (simple_by v kind r) (simple_agrees r) ts after x (simple_finds v honest l d r le)
       statement_found {after = after} (g.empty {l = l}) room le h = commit_finds v.item (Lower room) refuse (sign l s.Semicolon) after after nothing (λ u e. (pure nothing, empty_goes room l u e, done after nothing))
       statement_found (g.if_only d a) zero le h = absurd (omega (arith, le))
-      statement_found {after = after} (g.if_only {b = b} {l = l} {m = m} {n = n} {ts = ts} {e = e} {one = one} d a) (suc r) le h =
-          let up = expression_tall d in
+      statement_found {after = after} (g.if_only {b = b} {l = l} {m = m} {n = n} {ts = ts} {c = e} {one = one} d a) (suc r) le h =
+          let up = choice_tall d in
           commit_finds v.item (Lower (suc r)) refuse (fixed l w.If) (sign m s.LeftParenthesis ∷ ts) after (chosen l e one nothing)
           (λ u q. (
             choice v r (Lower r) l,
@@ -256,8 +412,8 @@ module _ {Token : Type 0} (v : Sight Token) (honest : Honest v) where
             choice_finds r l m n d (omega (arith, le)) (arm_found a r (omega (arith, le)) (allowed b after h)) (none_finds v.item (else_by v (Lower r) l e one) after (chosen l e one nothing) (else_halts r l e one after h)),
           ))
       statement_found (g.if_else d a c) zero le h = absurd (omega (arith, le))
-      statement_found {after = after} (g.if_else {l = l} {m = m} {n = n} {i = i} {ts = ts} {e = e} {one = one} {two = two} d a c) (suc r) le h =
-          let up = expression_tall d in
+      statement_found {after = after} (g.if_else {l = l} {m = m} {n = n} {i = i} {ts = ts} {c = e} {one = one} {two = two} d a c) (suc r) le h =
+          let up = choice_tall d in
           commit_finds v.item (Lower (suc r)) refuse (fixed l w.If) (sign m s.LeftParenthesis ∷ ts) after (chosen l e one two)
           (λ u q. (
             choice v r (Lower r) l,

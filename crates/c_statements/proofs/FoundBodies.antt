@@ -24,7 +24,7 @@ use Rattle.c_simple.specs.Words.{number_of}
 use Rattle.c_simple.specs.Parsers.{line, line_in}
 use Rattle.c_statements.specs.declared.word.Thread.{Thread}
 use Rattle.c_statements.specs.declared.word.Thread.TheVariants as t
-use Rattle.c_statements.specs.Words.{thread_opening, is_else, is_static, begins}
+use Rattle.c_statements.specs.Words.{thread_opening}
 use Rattle.c_statements.specs.Parsers.{slot_of, length_by, slot_length, slot_behind, slot_by, slot, comma_by, one_more_slot, more_slots, named_slots, slots_by, slot_list, statement_by, stated_by, named_thread, with_slots, with_slots_by, static_threads, threads, main_by, is_main, body_by, body}
 use Rattle.c_statements.specs.Ends.{BodyEnds}
 use Rattle.c_statements.proofs.Shorter.{comma_shrinks, body_shrinks}

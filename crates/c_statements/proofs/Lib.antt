@@ -9,6 +9,7 @@ pub mod Fits
 pub mod Tokens
 pub mod Found
 pub mod FoundBodies
+pub mod Trials
 pub mod Viable
 pub mod ViableBodies
 pub mod Same

@@ -1,31 +1,35 @@
 -- Statements and bodies are read alike where tokens are seen alike.
-use Rattle.std.proofs.Common.{◌≡◌, ℕ, zero, suc, Bool, true, false, cond, if◌then◌else◌, List, [], ◌∷◌, length, Option, Some, None, refl, sym, ap, subst}
+use Rattle.std.proofs.Common.{◌≡◌, ℕ, zero, suc, ◌-◌, Bool, true, false, cond, if◌then◌else◌, List, [], ◌∷◌, length, Option, Some, None, refl, sym, ap, subst}
 use Rattle.c_lexer.specs.declared.token.Sign.{Sign}
 use Rattle.c_lexer.specs.declared.token.Sign.TheVariants as s
 use Rattle.c_tree.specs.declared.program.Kind.{Kind}
 use Rattle.c_tree.specs.declared.program.Slot.{Slot}
 use Rattle.c_tree.specs.Expressions as tree
-use Rattle.c_tree.specs.Expressions.{Expr}
+use Rattle.c_tree.specs.Expressions.{Expr, Place}
 use Rattle.c_tree.specs.Lined as lined
 use Rattle.c_tree.specs.Lined.{Stmt}
 use Rattle.c_grammar.specs.Items.{Item, name_of}
 use Rattle.c_grammar.specs.Levels.{Tall, tall, nothing, alone, followed}
-use Rattle.c_grammar.specs.Statements.{chosen, repeated, counted, Body, body_then, body_with}
+use Rattle.c_grammar.specs.Statements.{Choice, chosen, repeated, counted, Body, body_then, body_with}
 use Rattle.parse_laws.specs.Parser.{Parser, ◌>>=◌, pure, refuse, Move, Stop, Deep, Go, commit, when, must, deeper, many}
-use Rattle.parse_laws.proofs.Alike.{Ways, token, Alike, AlikeMove, AlikeMoves, Stays, alike_moves, pure_alike, commit_alike, choice_alike, option_alike, when_alike, test_alike, must_alike, bind_alike, then_alike, deeper_alike, loop_alike, many_alike}
-use Rattle.c_expressions.specs.Parsers.{Sight, what_at, seen, is, go_named, named, fits, close, expression}
-use Rattle.c_expressions.proofs.Same.{Like, by_bars, bars, clear, ways, by_what, test_by_what, is_same, sign_same, go_named_same, close_same, expression_same}
+use Rattle.parse_laws.proofs.Alike.{Ways, token, Alike, AlikeMove, AlikeMoves, Stays, alike_moves, pure_alike, commit_alike, choice_alike, option_alike, when_alike, when_stays, test_alike, must_alike, bind_alike, then_alike, deeper_alike, loop_alike, many_alike}
+use Rattle.c_expressions.specs.Parsers.{Sight, what_at, seen, is, go_named, named, fits, close, expression, address}
+use Rattle.c_expressions.proofs.Same.{Like, by_bars, bars, clear, ways, by_what, test_by_what, is_same, sign_same, go_named_same, close_same, expression_same, address_same}
 use Rattle.c_simple.specs.Words.{number_of}
 use Rattle.c_simple.specs.Parsers.{line_in, line, step_by, begins_simple_at}
 use Rattle.c_simple.proofs.Same.{step_same, simple_same}
 use Rattle.c_statements.specs.declared.word.Opening.{Opening}
 use Rattle.c_statements.specs.declared.word.Opening.TheVariants as o
+use Rattle.c_statements.specs.declared.word.Question.{Question}
+use Rattle.c_statements.specs.declared.word.Question.TheVariants as question
+use Rattle.c_statements.specs.declared.word.Comparison.{Comparison}
+use Rattle.c_statements.specs.declared.word.Comparison.TheVariants as comparison
 use Rattle.c_statements.specs.declared.word.Start.{Start}
 use Rattle.c_statements.specs.declared.word.Start.TheVariants as f
 use Rattle.c_statements.specs.declared.word.Thread.{Thread}
 use Rattle.c_statements.specs.declared.word.Thread.TheVariants as th
-use Rattle.c_statements.specs.Words.{statement_opening, first_start, thread_opening, is_else, is_thread_type}
-use Rattle.c_statements.specs.Parsers.{tested, condition, initial_value, declared, first_by, first, given_test, middle, last_by, last, block, arm_by, arm, second_arm, else_by, else_arm, choice, repetition, counted_arm, counted_parts, counting, twice_deeper, simple_in, statement_in, statement_by, slot_of, length_by, slot_length, slot_behind, slot_by, one_more_slot, slot, comma_by, more_slots, named_slots, slots_by, slot_list, empty_body, stated, stated_by, named_thread, with_slots, with_slots_by, static_threads, threads, main_by, is_main, body_by, body}
+use Rattle.c_statements.specs.Words.{statement_opening, asks, behind_try, is_try, is_zero, first_start, thread_opening, is_else, is_thread_type}
+use Rattle.c_statements.specs.Parsers.{tested, condition, as_value, as_busy, as_taken, as_negated, valued, tried, zero_behind, compared_by, compared, uncompared, plain, negated, behind_not, two_deeper, asked_by, asked, trial, initial_value, declared, first_by, first, given_test, middle, last_by, last, block, arm_by, arm, second_arm, else_by, else_arm, choice, repetition, counted_arm, counted_parts, counting, twice_deeper, simple_in, statement_in, statement_by, slot_of, length_by, slot_length, slot_behind, slot_by, one_more_slot, slot, comma_by, more_slots, named_slots, slots_by, slot_list, empty_body, stated, stated_by, named_thread, with_slots, with_slots_by, static_threads, threads, main_by, is_main, body_by, body}
 
 module _ {One Two : Type 0} (v : Sight One) (z : Sight Two) (like : Like v z) (Later : List One → List Two → Type 0) (long : (x : List One) (y : List Two) → Later x y → length x ≡ length y) where
   abbrev Y : Ways One Two Item
@@ -55,7 +59,7 @@ module _ {One Two : Type 0} (v : Sight One) (z : Sight Two) (like : Like v z) (L
       alike_moves Y (λ u t e. subst (λ (x : Item). AM (go_named (p (line_in x)) (name_of (what_at x))) (named z (q (line z t)) t)) (sym e) (go_named_same v z like Later long (p (line z t)) (q (line z t)) (h (line z t)) (name_of (seen z t))))
       (λ t b. by_bars (λ a. Stays Y (go_named (q (line z t)) (name_of a))) tt tt (z.item t) b)
 
-  -- ---- what is tested
+  -- ---- what `while` tests
 
   tested_same : (r : ℕ) → A (tested v r) (tested z r)
   tested_same r = bind_alike Y (expression v r) (expression z r) (λ e. close v s.RightParenthesis (fits r e.levels) (pure e)) (λ e. close z s.RightParenthesis (fits r e.levels) (pure e)) (expression_same v z like Later long r) (λ e. close_then s.RightParenthesis (fits r e.levels) e)
@@ -63,6 +67,108 @@ module _ {One Two : Type 0} (v : Sight One) (z : Sight Two) (like : Like v z) (L
   condition_same : (r : ℕ) → A (condition v r) (condition z r)
   unfolding condition
   condition_same r = sign_then s.LeftParenthesis (tested v r) (tested z r) (tested_same r)
+
+  -- ---- what `if` tests
+
+  valued_same : (r : ℕ) → A (valued v r) (valued z r)
+  valued_same r = bind_alike Y (expression v r) (expression z r) (λ e. close v s.RightParenthesis (fits r e.levels) (pure (as_value e))) (λ e. close z s.RightParenthesis (fits r e.levels) (pure (as_value e))) (expression_same v z like Later long r) (λ e. close_then s.RightParenthesis (fits r e.levels) (as_value e))
+
+  tried_same : (r : ℕ) → A (tried v r) (tried z r)
+  unfolding tried
+  tried_same r = bind_alike Y (address v r) (address z r) (λ p. must (is v s.RightParenthesis) (pure p)) (λ p. must (is z s.RightParenthesis) (pure p)) (address_same v z like Later long r) (λ p. sign_then s.RightParenthesis (pure p) (pure p) (pure_alike Y p))
+
+  zero_same : (x : Tall Choice) → A (zero_behind v x) (zero_behind z x)
+  zero_same x =
+      must_alike Y (λ u. is_zero (seen v u)) (λ t. is_zero (seen z t)) (must (is v s.RightParenthesis) (pure x)) (must (is z s.RightParenthesis) (pure x)) (test_by_what v z like Later long is_zero refl refl)
+      (sign_then s.RightParenthesis (pure x) (pure x) (pure_alike Y x))
+
+  compared_same : (p : Tall Place) → A (compared v p) (compared z p)
+  unfolding compared
+  compared_same p =
+      choice_alike Y (λ u. compared_by v p (behind_try (seen v u))) (λ t. compared_by z p (behind_try (seen z t))) (by_what v z like Later long (λ a. compared_by v p (behind_try a)) (λ a. compared_by z p (behind_try a)) (λ a. go (behind_try a)) tt tt)
+    where
+      go : (x : Comparison) → AM (compared_by v p x) (compared_by z p x)
+      go comparison.End = pure_alike Y (as_busy p)
+      go comparison.Equal = zero_same (as_taken p)
+      go comparison.NotEqual = zero_same (as_busy p)
+      go comparison.Other = tt
+
+  uncompared_same : (p : Tall Place) → A (uncompared v p) (uncompared z p)
+  uncompared_same p = sign_then s.RightParenthesis (pure (as_negated p)) (pure (as_negated p)) (pure_alike Y (as_negated p))
+
+  plain_same : (r : ℕ) (u : One) (t : Two) → v.item u ≡ z.item t → clear (z.item t) ≡ true → A (plain v r u) (plain z r t)
+  unfolding plain
+  plain_same r u t e c =
+      commit_alike Y (λ x. when (is v s.LeftParenthesis x) (tried v (r - 1) >>= compared v)) (λ y. when (is z s.LeftParenthesis y) (tried z (r - 1) >>= compared z)) (λ ts. valued v r (u ∷ ts)) (λ ts. valued z r (t ∷ ts))
+      (test_alike Y (is v s.LeftParenthesis) (is z s.LeftParenthesis) (tried v (r - 1) >>= compared v) (tried z (r - 1) >>= compared z) (is_same v z like Later long s.LeftParenthesis) (bind_alike Y (tried v (r - 1)) (tried z (r - 1)) (compared v) (compared z) (tried_same (r - 1)) compared_same))
+      (λ x y d. valued_same r (u ∷ x) (t ∷ y) (token e c d))
+
+  negated_same : (r : ℕ) (u : One) (t : Two) → v.item u ≡ z.item t → clear (z.item t) ≡ true → (m : One) (n : Two) → v.item m ≡ z.item n → clear (z.item n) ≡ true → A (negated v r u m) (negated z r t n)
+  unfolding negated
+  negated_same r u t e c m n f i =
+      commit_alike Y (λ x. when (is v s.LeftParenthesis x) (tried v (r - 2) >>= uncompared v)) (λ y. when (is z s.LeftParenthesis y) (tried z (r - 2) >>= uncompared z)) (λ ts. valued v r (u ∷ m ∷ ts)) (λ ts. valued z r (t ∷ n ∷ ts))
+      (test_alike Y (is v s.LeftParenthesis) (is z s.LeftParenthesis) (tried v (r - 2) >>= uncompared v) (tried z (r - 2) >>= uncompared z) (is_same v z like Later long s.LeftParenthesis) (bind_alike Y (tried v (r - 2)) (tried z (r - 2)) (uncompared v) (uncompared z) (tried_same (r - 2)) uncompared_same))
+      (λ x y d. valued_same r (u ∷ m ∷ x) (t ∷ n ∷ y) (token e c (token f i d)))
+
+  try_same : (u : One) (t : Two) → v.item u ≡ z.item t → is_try (seen v u) ≡ is_try (seen z t)
+  try_same u t e = ap (λ (x : Item). is_try (what_at x)) e
+
+  behind_not_same : (r : ℕ) (u : One) (t : Two) → v.item u ≡ z.item t → clear (z.item t) ≡ true → A (behind_not v r u) (behind_not z r t)
+  unfolding behind_not
+  behind_not_same r u t e c =
+      commit_alike Y (λ m. when (is_try (seen v m)) (negated v r u m)) (λ n. when (is_try (seen z n)) (negated z r t n)) (λ ts. valued v r (u ∷ ts)) (λ ts. valued z r (t ∷ ts))
+      (record {
+        moves = λ m n f i. when_alike Y (is_try (seen v m)) (is_try (seen z n)) (negated v r u m) (negated z r t n) (try_same m n f) (negated_same r u t e c m n f i);
+        barred = λ m n f b. none (is_try (seen v m)) (is_try (seen z n)) m n (try_same m n f) (no_try (z.item n) b);
+        stays = λ n b. when_stays Y (is_try (seen z n)) (negated z r t n) (no_try (z.item n) b);
+      })
+      (λ x y d. valued_same r (u ∷ x) (t ∷ y) (token e c d))
+    where
+      no_try : (x : Item) → bars x ≡ true → is_try (what_at x) ≡ false
+      no_try x b = by_bars (λ a. is_try a ≡ false) refl refl x b
+
+      none : (x y : Bool) (m : One) (n : Two) → x ≡ y → y ≡ false → AM (when x (negated v r u m)) (when y (negated z r t n))
+      none false false m n e d = tt
+      none true true m n e d = absurd cc
+      none true false m n e d = absurd cc
+      none false true m n e d = absurd cc
+
+  two_same : {B : Type 0} (p : Parser One B) (q : Parser Two B) (r : ℕ) → A p q → AM (two_deeper p r) (two_deeper q r)
+  two_same p q zero h = tt
+  two_same p q (suc r) h = deeper_alike Y (λ _. p) (λ _. q) r (λ m e. h)
+
+  asked_same : (r : ℕ) → A (asked v r) (asked z r)
+  unfolding asked
+  asked_same r =
+      commit_alike Y (λ u. asked_by v r u (asks (seen v u))) (λ t. asked_by z r t (asks (seen z t))) (valued v r) (valued z r)
+      (record {
+        moves = λ u t e c. subst (λ (x : Item). AM (asked_by v r u (asks (what_at x))) (asked_by z r t (asks (seen z t)))) (sym e) (go u t e c (asks (seen z t)));
+        barred = λ u t e b. subst (λ (x : Item). AM (asked_by v r u (asks (what_at x))) (asked_by z r t (asks (seen z t)))) (sym e) (none u t (asks (seen z t)) (no_question (z.item t) b));
+        stays = λ t b. calm t (asks (seen z t)) (no_question (z.item t) b);
+      })
+      (valued_same r)
+    where
+      no_question : (x : Item) → bars x ≡ true → asks (what_at x) ≡ question.Expression
+      no_question x b = by_bars (λ a. asks a ≡ question.Expression) refl refl x b
+
+      go : (u : One) (t : Two) → v.item u ≡ z.item t → clear (z.item t) ≡ true → (x : Question) → AM (asked_by v r u x) (asked_by z r t x)
+      go u t e c question.TryLock = deeper_alike Y (λ _. plain v r u) (λ _. plain z r t) r (λ m d. plain_same r u t e c)
+      go u t e c question.Not = two_same (behind_not v r u) (behind_not z r t) r (behind_not_same r u t e c)
+      go u t e c question.Expression = tt
+
+      none : (u : One) (t : Two) (x : Question) → x ≡ question.Expression → AM (asked_by v r u x) (asked_by z r t x)
+      none u t question.Expression d = tt
+      none u t question.TryLock d = absurd cc
+      none u t question.Not d = absurd cc
+
+      calm : (t : Two) (x : Question) → x ≡ question.Expression → Stays Y (asked_by z r t x)
+      calm t question.Expression d = tt
+      calm t question.TryLock d = absurd cc
+      calm t question.Not d = absurd cc
+
+  trial_same : (r : ℕ) → A (trial v r) (trial z r)
+  unfolding trial
+  trial_same r = sign_then s.LeftParenthesis (asked v r) (asked z r) (asked_same r)
 
   -- ---- the parts of a `for`
 
@@ -133,7 +239,7 @@ module _ {One Two : Type 0} (v : Sight One) (z : Sight Two) (like : Like v z) (L
     unfolding arm
     arm_same = choice_alike Y (arm_by v lower) (arm_by z under) (sign_or s.LeftBrace (block v lower) (block z under) lower under block_same h)
 
-    else_same : (l : ℕ) (e : Tall Expr) (one : Tall (List Stmt)) → A (else_arm v lower l e one) (else_arm z under l e one)
+    else_same : (l : ℕ) (e : Tall Choice) (one : Tall (List Stmt)) → A (else_arm v lower l e one) (else_arm z under l e one)
     else_same l e one =
         option_alike Y (else_by v lower l e one) (else_by z under l e one) (chosen l e one nothing)
         (test_alike Y (λ u. is_else (seen v u)) (λ t. is_else (seen z t)) (second_arm v lower l e one) (second_arm z under l e one) (test_by_what v z like Later long is_else refl refl) (then_pure (arm v lower) (arm z under) (chosen l e one) arm_same))
@@ -141,7 +247,7 @@ module _ {One Two : Type 0} (v : Sight One) (z : Sight Two) (like : Like v z) (L
     choice_same : (r l : ℕ) → A (choice v r lower l) (choice z r under l)
     unfolding choice
     choice_same r l =
-        bind_alike Y (condition v r) (condition z r) (λ e. arm v lower >>= λ one. else_arm v lower l e one) (λ e. arm z under >>= λ one. else_arm z under l e one) (condition_same r)
+        bind_alike Y (trial v r) (trial z r) (λ e. arm v lower >>= λ one. else_arm v lower l e one) (λ e. arm z under >>= λ one. else_arm z under l e one) (trial_same r)
         (λ e. bind_alike Y (arm v lower) (arm z under) (λ one. else_arm v lower l e one) (λ one. else_arm z under l e one) arm_same (λ one. else_same l e one))
 
     repetition_same : (r l : ℕ) → A (repetition v r lower l) (repetition z r under l)

@@ -1,27 +1,33 @@
 -- No parser of this crate takes a token back, so the bound on the turns of its loops is never met.
-use Rattle.std.proofs.Common.{ℕ, zero, suc, Bool, true, false, cond, List, ◌∷◌, Option, Some, None, arith}
+use Rattle.std.proofs.Common.{◌≡◌, ℕ, zero, suc, ◌-◌, ◌≤◌, Bool, true, false, cond, List, ◌∷◌, length, Option, Some, None, arith}
 use Rattle.c_lexer.specs.declared.token.Sign.TheVariants as s
 use Rattle.c_tree.specs.declared.program.Kind.{Kind}
 use Rattle.c_tree.specs.declared.program.Slot.{Slot}
+use Rattle.c_tree.specs.Expressions.{Place}
 use Rattle.c_tree.specs.Lined.{Stmt}
 use Rattle.c_grammar.specs.Items.{name_of}
 use Rattle.c_grammar.specs.Levels.{Tall, nothing}
-use Rattle.c_grammar.specs.Statements.{Body, body_then}
-use Rattle.parse_laws.specs.Parser.{Parser, pure, Move, Stop, Deep, Go, deeper}
+use Rattle.c_grammar.specs.Statements.{Choice, Body, body_then}
+use Rattle.parse_laws.specs.Parser.{Got, Parser, pure, Move, Stop, Deep, Go, deeper}
 use Rattle.parse_laws.proofs.Loops.{Shrinks}
-use Rattle.parse_laws.proofs.Sound.{Sound, SoundMove, stop_sound, deep_sound, go_sound}
-use Rattle.c_expressions.specs.Parsers.{Sight, seen, is, go_named, named}
-use Rattle.c_expressions.proofs.Shorter.{Less, less_pure, less_commit, less_choice, less_when, less_deeper, less_shrinks, less_bind, less_then, less_must, less_loop, less_close, fewer_less, fewer_bind, fewer_choice, fewer_expression_of}
+use Rattle.parse_laws.proofs.Sound.{Sound, SoundMove, stop_sound, deep_sound, go_sound, sound_map, bind_sound}
+use Rattle.c_expressions.specs.Parsers.{Sight, seen, is, fits, go_named, named}
+use Rattle.c_expressions.proofs.PartsShorter.{less_address}
+use Rattle.c_expressions.proofs.Shorter.{Less, less_pure, less_commit, less_choice, less_when, less_deeper, less_shrinks, less_bind, less_then, less_must, less_loop, less_close, less_close_by, fewer_less, fewer_bind, fewer_choice, fewer_expression_of}
 use Rattle.c_statements.specs.declared.word.Opening.{Opening}
 use Rattle.c_statements.specs.declared.word.Opening.TheVariants as o
+use Rattle.c_statements.specs.declared.word.Question.{Question}
+use Rattle.c_statements.specs.declared.word.Question.TheVariants as question
+use Rattle.c_statements.specs.declared.word.Comparison.{Comparison}
+use Rattle.c_statements.specs.declared.word.Comparison.TheVariants as comparison
 use Rattle.c_statements.specs.declared.word.Start.{Start}
 use Rattle.c_statements.specs.declared.word.Start.TheVariants as f
 use Rattle.c_statements.specs.declared.word.Thread.{Thread}
 use Rattle.c_statements.specs.declared.word.Thread.TheVariants as t
 use Rattle.c_simple.specs.Words.{number_of}
 use Rattle.c_simple.specs.Parsers.{line, begins_simple}
-use Rattle.c_statements.specs.Words.{statement_opening, first_start, thread_opening}
-use Rattle.c_statements.specs.Parsers.{condition, declared, first_by, first, middle, last, block, arm, choice, repetition, counting, twice_deeper, simple_in, statement_in, statement_by, slot_length, length_by, slot_behind, slot, comma_by, more_slots, with_slots_by, static_threads, threads, main_by, body_by, stated_by, named_thread, is_main}
+use Rattle.c_statements.specs.Words.{statement_opening, asks, behind_try, first_start, thread_opening}
+use Rattle.c_statements.specs.Parsers.{condition, as_value, valued, tried, compared_by, compared, plain, negated, behind_not, two_deeper, asked_by, asked, trial, declared, first_by, first, middle, last, block, arm, choice, repetition, counting, twice_deeper, simple_in, statement_in, statement_by, slot_length, length_by, slot_behind, slot, comma_by, more_slots, with_slots_by, static_threads, threads, main_by, body_by, stated_by, named_thread, is_main}
 use Rattle.c_simple.proofs.Shorter.{less_simple, less_step}
 
 module _ {Token : Type 0} (v : Sight Token) where
@@ -37,6 +43,60 @@ module _ {Token : Type 0} (v : Sight Token) where
   less_condition : (r : ℕ) → Sound (condition v r) Less
   unfolding condition
   less_condition r = less_must _ (less_bind (fewer_less (fewer_expression_of v r)) (λ e. less_close v _ _ less_pure))
+
+  -- an expression and the `)` behind it are two tokens at least
+  abbrev Shorter : List Token → List Token → Tall Choice → Type 0
+  Shorter ts rest x = suc (suc (length rest)) ≤ length ts
+
+  valued_shorter : (r : ℕ) → Sound (valued v r) Shorter
+  valued_shorter r = bind_sound (fewer_expression_of v r) (λ e. sound_map (λ mid rest x h ts lt. omega (arith, h, lt)) (fewer_bind (fewer_choice (λ u. less_close_by v s.RightParenthesis (fits r e.levels) less_pure u)) (λ w. less_pure {a = as_value e})))
+
+  pub valued_takes : (r : ℕ) (ts : List Token) (x : Tall Choice) (rest : List Token) → valued v r ts ≡ Got x rest → suc (suc (length rest)) ≤ length ts
+  valued_takes r ts x rest e = (valued_shorter r).spelled ts x rest e
+
+  less_tried : (r : ℕ) → Sound (tried v r) Less
+  unfolding tried
+  less_tried r = less_bind (less_address v r) (λ p. less_must _ less_pure)
+
+  less_compared : (p : Tall Place) → Sound (compared v p) Less
+  unfolding compared
+  less_compared p = less_choice (λ u. go (behind_try (seen v u)))
+    where
+      go : (x : Comparison) → SoundMove Less (compared_by v p x)
+      go comparison.End = go_sound less_pure
+      go comparison.Equal = go_sound (less_must _ (less_must _ less_pure))
+      go comparison.NotEqual = go_sound (less_must _ (less_must _ less_pure))
+      go comparison.Other = stop_sound
+
+  less_plain : (r : ℕ) (u : Token) → Sound (plain v r u) Less
+  unfolding plain
+  less_plain r u = less_commit (λ t. less_when _ (less_bind (less_tried (r - 1)) (λ p. less_compared p))) (record { spelled = λ ts x rest e. let le = valued_takes r (u ∷ ts) x rest e in omega (arith, le) })
+
+  less_negated : (r : ℕ) (u t : Token) → Sound (negated v r u t) Less
+  unfolding negated
+  less_negated r u t = less_commit (λ w. less_when _ (less_bind (less_tried (r - 2)) (λ p. less_must _ less_pure))) (record { spelled = λ ts x rest e. let le = valued_takes r (u ∷ t ∷ ts) x rest e in omega (arith, le) })
+
+  less_behind_not : (r : ℕ) (u : Token) → Sound (behind_not v r u) Less
+  unfolding behind_not
+  less_behind_not r u = less_commit (λ t. less_when _ (less_negated r u t)) (record { spelled = λ ts x rest e. let le = valued_takes r (u ∷ ts) x rest e in omega (arith, le) })
+
+  less_two : {A : Type 0} {p : Parser Token A} (r : ℕ) → Sound p Less → SoundMove Less (two_deeper p r)
+  less_two zero h = deep_sound
+  less_two (suc zero) h = deep_sound
+  less_two (suc (suc r)) h = go_sound h
+
+  less_asked : (r : ℕ) → Sound (asked v r) Less
+  unfolding asked
+  less_asked r = less_commit (λ u. go u (asks (seen v u))) (record { spelled = λ ts x rest e. let le = valued_takes r ts x rest e in omega (arith, le) })
+    where
+      go : (u : Token) (x : Question) → SoundMove Less (asked_by v r u x)
+      go u question.TryLock = less_deeper r (λ m e. less_plain r u)
+      go u question.Not = less_two r (less_behind_not r u)
+      go u question.Expression = stop_sound
+
+  less_trial : (r : ℕ) → Sound (trial v r) Less
+  unfolding trial
+  less_trial r = less_must _ (less_asked r)
 
   less_declared : (r : ℕ) → Sound (declared v r) Less
   unfolding declared
@@ -80,7 +140,7 @@ module _ {Token : Type 0} (v : Sight Token) where
 
     less_choice_of : (r line : ℕ) → Sound (choice v r lower line) Less
     unfolding choice
-    less_choice_of r line = less_bind (less_condition r) (λ e. less_bind less_arm (λ one. less_commit (λ u. less_when _ (less_bind less_arm (λ two. less_pure))) less_pure))
+    less_choice_of r line = less_bind (less_trial r) (λ e. less_bind less_arm (λ one. less_commit (λ u. less_when _ (less_bind less_arm (λ two. less_pure))) less_pure))
 
     less_repetition : (r line : ℕ) → Sound (repetition v r lower line) Less
     unfolding repetition

@@ -1,29 +1,33 @@
 -- What the parser reads is what the grammar spells: statements, their parts and their arms.
-use Rattle.std.proofs.Common.{◌≡◌, ℕ, zero, suc, Bool, true, false, cond, List, [], ◌∷◌, Some, refl, sym, ap, subst}
+use Rattle.std.proofs.Common.{◌≡◌, ℕ, zero, suc, ◌-◌, Bool, true, false, cond, List, [], ◌∷◌, Some, refl, sym, ap, subst}
 use Rattle.c_lexer.specs.declared.token.Sign.TheVariants as s
 use Rattle.c_tree.specs.declared.program.Kind.{Kind}
 use Rattle.c_tree.specs.Expressions as tree
-use Rattle.c_tree.specs.Expressions.{Expr}
+use Rattle.c_tree.specs.Expressions.{Expr, Place}
 use Rattle.c_tree.specs.Lined as lined
 use Rattle.c_tree.specs.Lined.{Stmt}
-use Rattle.c_grammar.specs.Items.{Item, sign, name_of}
+use Rattle.c_grammar.specs.Items.{What, Item, at, sign, name_of}
 use Rattle.c_grammar.specs.Levels.{Tall, tall, nothing, alone, followed}
-use Rattle.c_grammar.specs.Expressions.{SpellsWhole}
+use Rattle.c_grammar.specs.Expressions.{SpellsWhole, SpellsAddress}
 use Rattle.c_grammar.specs.Statements as g
-use Rattle.c_grammar.specs.Statements.{SpellsFirst, SpellsTest, SpellsLast, SpellsStatement, SpellsArm, SpellsList, chosen}
+use Rattle.c_grammar.specs.Statements.{SpellsFirst, SpellsTest, SpellsLast, Choice, SpellsTry, SpellsChoice, SpellsStatement, SpellsArm, SpellsList, chosen}
 use Rattle.parse_laws.specs.Parser.{Parser, pure, Move, Stop, Deep, Go, when, deeper}
 use Rattle.parse_laws.proofs.Sound.{Sound, SoundMove, stop_sound, deep_sound, go_sound, pure_sound, refuse_sound, sound_map, bind_sound, commit_sound, token_sound, when_sound, many_sound, option_sound}
 use Rattle.c_expressions.specs.Parsers.{Sight, seen, is, fits}
-use Rattle.c_expressions.proofs.Sounds.{items, named_sound, close_sound, deeper_sound, expression_sound}
+use Rattle.c_expressions.proofs.Sounds.{items, named_sound, close_sound, deeper_sound, expression_sound, address_sound}
 use Rattle.c_simple.specs.Parsers.{line, step_by, begins_simple}
 use Rattle.c_simple.proofs.Sounds.{simple_sound, step_sound}
 use Rattle.c_statements.specs.declared.word.Opening.{Opening}
 use Rattle.c_statements.specs.declared.word.Opening.TheVariants as o
+use Rattle.c_statements.specs.declared.word.Question.{Question}
+use Rattle.c_statements.specs.declared.word.Question.TheVariants as question
+use Rattle.c_statements.specs.declared.word.Comparison.{Comparison}
+use Rattle.c_statements.specs.declared.word.Comparison.TheVariants as comparison
 use Rattle.c_statements.specs.declared.word.Start.{Start}
 use Rattle.c_statements.specs.declared.word.Start.TheVariants as f
-use Rattle.c_statements.specs.Words.{statement_opening, first_start, is_else}
-use Rattle.c_statements.specs.Parsers.{condition, declared, first_by, first, middle, last, block, arm, second_arm, choice, repetition, counting, twice_deeper, simple_in, statement_in, statement_by, else_comes}
-use Rattle.c_statements.proofs.Spelled.{sign_at, empty_at, if_at, while_at, for_at, nothing_at, int_at, else_at, declare_spelled}
+use Rattle.c_statements.specs.Words.{statement_opening, asks, behind_try, is_try, first_start, is_else}
+use Rattle.c_statements.specs.Parsers.{condition, valued, tried, compared_by, compared, uncompared, plain, negated, behind_not, two_deeper, asked_by, asked, trial, declared, first_by, first, middle, last, block, arm, second_arm, choice, repetition, counting, twice_deeper, simple_in, statement_in, statement_by, else_comes}
+use Rattle.c_statements.proofs.Spelled.{sign_at, asks_try_at, asks_not_at, end_at, equal_at, other_at, try_at, zero_at, try_spelled, try_then, try_compared, empty_at, if_at, while_at, for_at, nothing_at, int_at, else_at, declare_spelled}
 
 module _ {Token A : Type 0} {R S : List Token → List Token → A → Type 0} where
   pub move_map : {m : Move Token A} → ((ts rest : List Token) (a : A) → R ts rest a → S ts rest a) → SoundMove R m → SoundMove S m
@@ -44,7 +48,7 @@ when_stops true p e = absurd cc
 when_stops false p e = refl
 
 module _ {Token : Type 0} (v : Sight Token) where
-  -- ---- what is tested
+  -- ---- what `while` tests
 
   -- parentheses with an expression in them
   abbrev pub C : List Token → List Token → Tall Expr → Type 0
@@ -59,6 +63,91 @@ module _ {Token : Type 0} (v : Sight Token) where
     ap (λ (t : Item). t ∷ items v ts) (sign_at s.LeftParenthesis (v.item u) q),
     subst (λ (t : Item). SpellsWhole (items v ts) (t ∷ items v rest) e) (sign_at s.RightParenthesis (v.item w) d) y,
   )))))
+
+  -- ---- what `if` tests
+
+  -- with the `)` behind it
+  abbrev pub Q : List Token → List Token → Tall Choice → Type 0
+  Q ts rest x = (n : ℕ) × SpellsChoice (items v ts) (sign n s.RightParenthesis ∷ items v rest) x
+
+  valued_sound : (r : ℕ) → Sound (valued v r) Q
+  valued_sound r =
+      bind_sound (expression_sound v r) (λ e. close_sound v s.RightParenthesis (fits r e.levels) (λ w d. pure_sound (λ rest ts y. (line v w, g.value (subst (λ (t : Item). SpellsWhole (items v ts) (t ∷ items v rest) e) (sign_at s.RightParenthesis (v.item w) d) y)))))
+
+  tried_sound : (r : ℕ) → Sound (tried v r) (λ ts rest p. (n : ℕ) × SpellsAddress (items v ts) (sign n s.RightParenthesis ∷ items v rest) p)
+  unfolding tried
+  tried_sound r = bind_sound (address_sound v r) (λ p. token_sound (λ w d. pure_sound (λ rest ts y. (line v w, subst (λ (t : Item). SpellsAddress (items v ts) (t ∷ items v rest) p) (sign_at s.RightParenthesis (v.item w) d) y))))
+
+  -- behind a trylock that was read
+  abbrev Behind : (List Item → List Item) → Tall Place → List Token → List Token → Tall Choice → Type 0
+  Behind before p mid rest x = (ts : List Item) → SpellsTry ts (items v mid) p → (n : ℕ) × SpellsChoice (before ts) (sign n s.RightParenthesis ∷ items v rest) x
+
+  compared_sound : (p : Tall Place) → Sound (compared v p) (Behind (λ ts. ts) p)
+  unfolding compared
+  compared_sound p = commit_sound (λ w. go w (behind_try (seen v w)) refl) refuse_sound
+    where
+      go : (w : Token) (x : Comparison) → behind_try (seen v w) ≡ x → SoundMove (λ mid rest y. Behind (λ ts. ts) p (w ∷ mid) rest y) (compared_by v p x)
+      go w comparison.End d = go_sound (pure_sound (λ rest ts y. (line v w, g.tried (try_then ts (items v rest) p (v.item w) (sign (line v w) s.RightParenthesis) (end_at (v.item w) d) y))))
+      go w comparison.Equal d = go_sound (token_sound (λ a e. token_sound (λ b f. pure_sound (λ rest ts y. (
+        line v b,
+        g.zero (try_compared ts (items v rest) p (v.item w) (v.item a) (v.item b) (sign (line v w) s.Equal) (at (line v a) (What.Number 0)) (sign (line v b) s.RightParenthesis) (equal_at (v.item w) d) (zero_at (v.item a) e) (sign_at s.RightParenthesis (v.item b) f) y),
+      )))))
+      go w comparison.NotEqual d = go_sound (token_sound (λ a e. token_sound (λ b f. pure_sound (λ rest ts y. (
+        line v b,
+        g.other (try_compared ts (items v rest) p (v.item w) (v.item a) (v.item b) (sign (line v w) s.NotEqual) (at (line v a) (What.Number 0)) (sign (line v b) s.RightParenthesis) (other_at (v.item w) d) (zero_at (v.item a) e) (sign_at s.RightParenthesis (v.item b) f) y),
+      )))))
+      go w comparison.Other d = stop_sound
+
+  uncompared_sound : (l : ℕ) (p : Tall Place) → Sound (uncompared v p) (Behind (λ ts. sign l s.Not ∷ ts) p)
+  uncompared_sound l p = token_sound (λ w d. pure_sound (λ rest ts y. (line v w, g.not_tried (try_then ts (items v rest) p (v.item w) (sign (line v w) s.RightParenthesis) (sign_at s.RightParenthesis (v.item w) d) y))))
+
+  -- an expression of which tokens were read already
+  begun_sound : (r : ℕ) (u : Token) → Sound (λ ts. valued v r (u ∷ ts)) (λ mid rest x. Q (u ∷ mid) rest x)
+  begun_sound r u = record { spelled = λ mid x rest e. (valued_sound r).spelled (u ∷ mid) x rest e }
+
+  begun_twice_sound : (r : ℕ) (u t : Token) → Sound (λ ts. valued v r (u ∷ t ∷ ts)) (λ mid rest x. Q (u ∷ t ∷ mid) rest x)
+  begun_twice_sound r u t = record { spelled = λ mid x rest e. (valued_sound r).spelled (u ∷ t ∷ mid) x rest e }
+
+  plain_sound : (r : ℕ) (u : Token) → asks (seen v u) ≡ question.TryLock → Sound (plain v r u) (λ mid rest x. Q (u ∷ mid) rest x)
+  unfolding plain
+  plain_sound r u d =
+      commit_sound (λ t. when_sound (is v s.LeftParenthesis t) (λ e. bind_sound (tried_sound (r - 1))
+      (λ p. sound_map (λ mid rest x h ts y. h (v.item u ∷ v.item t ∷ items v ts) (try_spelled (v.item u) (v.item t) y.0 (items v ts) (items v mid) p (asks_try_at (v.item u) d) e y.1)) (compared_sound p)))) (begun_sound r u)
+
+  negated_sound : (r : ℕ) (u t : Token) → asks (seen v u) ≡ question.Not → is_try (seen v t) ≡ true → Sound (negated v r u t) (λ mid rest x. Q (u ∷ t ∷ mid) rest x)
+  unfolding negated
+  negated_sound r u t d c =
+      commit_sound (λ w. when_sound (is v s.LeftParenthesis w) (λ e. bind_sound (tried_sound (r - 2)) (λ p. sound_map (λ mid rest x h ts y. turned w ts rest x
+      (h (v.item t ∷ v.item w ∷ items v ts) (try_spelled (v.item t) (v.item w) y.0 (items v ts) (items v mid) p (try_at (v.item t) c) e y.1))) (uncompared_sound (line v u) p)))) (begun_twice_sound r u t)
+    where
+      turned : (w : Token) (ts rest : List Token) (x : Tall Choice) → (n : ℕ) × SpellsChoice (sign (line v u) s.Not ∷ v.item t ∷ v.item w ∷ items v ts) (sign n s.RightParenthesis ∷ items v rest) x → Q (u ∷ t ∷ w ∷ ts) rest x
+      turned w ts rest x y = (y.0, rw (asks_not_at (v.item u) d) y.1)
+
+  behind_not_sound : (r : ℕ) (u : Token) → asks (seen v u) ≡ question.Not → Sound (behind_not v r u) (λ mid rest x. Q (u ∷ mid) rest x)
+  unfolding behind_not
+  behind_not_sound r u d = commit_sound (λ t. when_sound (is_try (seen v t)) (λ c. negated_sound r u t d c)) (begun_sound r u)
+
+  two_sound : {A : Type 0} {R : List Token → List Token → A → Type 0} {p : Parser Token A} (r : ℕ) → Sound p R → SoundMove R (two_deeper p r)
+  two_sound zero h = deep_sound
+  two_sound (suc zero) h = deep_sound
+  two_sound (suc (suc r)) h = go_sound h
+
+  asked_sound : (r : ℕ) → Sound (asked v r) Q
+  unfolding asked
+  asked_sound r = commit_sound (λ u. go u (asks (seen v u)) refl) (valued_sound r)
+    where
+      go : (u : Token) (x : Question) → asks (seen v u) ≡ x → SoundMove (λ mid rest y. Q (u ∷ mid) rest y) (asked_by v r u x)
+      go u question.TryLock d = deeper_sound v r (λ m e. plain_sound r u d)
+      go u question.Not d = two_sound r (behind_not_sound r u d)
+      go u question.Expression d = stop_sound
+
+  -- and with the parentheses
+  abbrev pub P : List Token → List Token → Tall Choice → Type 0
+  P ts rest x = (m : ℕ) × (n : ℕ) × (inside : List Item) × (items v ts ≡ sign m s.LeftParenthesis ∷ inside) × SpellsChoice inside (sign n s.RightParenthesis ∷ items v rest) x
+
+  pub trial_sound : (r : ℕ) → Sound (trial v r) P
+  unfolding trial
+  trial_sound r = token_sound (λ u q. sound_map (λ mid rest x y. (line v u, y.0, items v mid, ap (λ (t : Item). t ∷ items v mid) (sign_at s.LeftParenthesis (v.item u) q), y.1)) (asked_sound r))
 
   -- ---- the parts of a `for`, with the sign behind them
 
@@ -146,15 +235,15 @@ module _ {Token : Type 0} (v : Sight Token) where
       choice_sound : (r : ℕ) (u : Token) → statement_opening (seen v u) ≡ o.If → Sound (choice v r lower (line v u)) (λ mid rest x. S (u ∷ mid) rest x)
       unfolding choice
       choice_sound r u d =
-          bind_sound (condition_sound r) (λ e. bind_sound arm_sound (λ one. option_sound
+          bind_sound (trial_sound r) (λ e. bind_sound arm_sound (λ one. option_sound
           (λ w. when_sound (is_else (seen v w)) (λ q. bind_sound arm_sound (λ two. pure_sound (λ rest next z mid y ts c. (z.0, both w e one two rest next mid ts q z.0 z.1 y c, z.2)))))
           (λ mid y ts c. (false, single e one [] mid ts y c, λ p. refl))
           (λ w rest p mid y ts c. (false, single e one (w ∷ rest) mid ts y c, λ n. when_stops (is_else (seen v w)) (second_arm v lower (line v u) e one) p))))
         where
-          single : (e : Tall Expr) (one : Tall (List Stmt)) (rest mid ts : List Token) → A mid rest one → C ts mid e → SpellsStatement kind false (v.item u ∷ items v ts) (items v rest) (chosen (line v u) e one nothing)
+          single : (e : Tall Choice) (one : Tall (List Stmt)) (rest mid ts : List Token) → A mid rest one → P ts mid e → SpellsStatement kind false (v.item u ∷ items v ts) (items v rest) (chosen (line v u) e one nothing)
           single e one rest mid ts y c = rw (if_at (v.item u) d, c.3) (g.if_only c.4 y.1)
 
-          both : (w : Token) (e : Tall Expr) (one two : Tall (List Stmt)) (rest next mid ts : List Token) → is_else (seen v w) ≡ true → (b : Bool) → SpellsArm kind b (items v next) (items v rest) two → A mid (w ∷ next) one → C ts mid e
+          both : (w : Token) (e : Tall Choice) (one two : Tall (List Stmt)) (rest next mid ts : List Token) → is_else (seen v w) ≡ true → (b : Bool) → SpellsArm kind b (items v next) (items v rest) two → A mid (w ∷ next) one → P ts mid e
               → SpellsStatement kind b (v.item u ∷ items v ts) (items v rest) (chosen (line v u) e one two)
           both w e one two rest next mid ts q b z y c =
               let first : SpellsArm kind true (items v mid) (v.item w ∷ items v next) one = closed_arm (items v mid) (v.item w ∷ items v next) one y.0 (is_else (seen v w)) y.1 y.2 q in

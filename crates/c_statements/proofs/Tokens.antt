@@ -1,17 +1,20 @@
 -- What statements and their parts begin with.
-use Rattle.std.proofs.Common.{◌≡◌, ◌≤◌, Bool, true, false, ◌||◌, List, [], ◌∷◌, ◌++◌, None, refl, subst, sym, arith}
+use Rattle.std.proofs.Common.{◌≡◌, ℕ, ◌≤◌, Bool, true, false, ◌||◌, List, [], ◌∷◌, ◌++◌, Some, None, refl, subst, sym, arith}
+use Rattle.std.proofs.lemmas.Option.{none-some}
 use Rattle.std.specs.Option.{is_some}
 use Rattle.c_lexer.specs.declared.token.Sign.{Sign}
 use Rattle.c_lexer.specs.declared.token.Sign.TheVariants as s
 use Rattle.c_tree.specs.declared.program.Kind.{Kind}
-use Rattle.c_tree.specs.Expressions.{Place}
+use Rattle.c_tree.specs.declared.expr.Op.{Op}
+use Rattle.c_tree.specs.Expressions.{Expr, Place}
 use Rattle.c_tree.specs.Lined.{Stmt}
+use Rattle.c_grammar.specs.declared.words.FixedWord.{FixedWord}
 use Rattle.c_grammar.specs.declared.words.FixedWord.TheVariants as w
-use Rattle.c_grammar.specs.Items.{What, Item, at, name_of}
+use Rattle.c_grammar.specs.Items.{What, Item, at, sign, fixed, name_of}
 use Rattle.c_grammar.specs.Levels.{Tall, together}
 use Rattle.c_grammar.specs.Commas.{Commas, one, more}
 use Rattle.c_grammar.specs.Expressions as e
-use Rattle.c_grammar.specs.Expressions.{SpellsPlace, SpellsCall, Called}
+use Rattle.c_grammar.specs.Expressions.{SpellsUnary, SpellsExpression, SpellsPlace, SpellsCall, Called, operator}
 use Rattle.c_grammar.specs.Simple as x
 use Rattle.c_grammar.specs.Simple.{SpellsStep, SpellsDeclarator, SpellsSimple}
 use Rattle.c_grammar.specs.Statements as g
@@ -21,6 +24,7 @@ use Rattle.c_grammar.proofs.Beginnings as begin
 use Rattle.c_expressions.specs.Words.{is_sign}
 use Rattle.c_expressions.specs.Parsers.{what_at}
 use Rattle.c_expressions.proofs.Spelled.{is_sign_only}
+use Rattle.c_expressions.proofs.Found.{unary_tall}
 use Rattle.c_simple.specs.Words.{counter}
 use Rattle.c_simple.specs.Parsers.{begins_simple_at}
 use Rattle.c_statements.specs.declared.word.Opening.{Opening}
@@ -199,3 +203,42 @@ pub simple_tall : {k : Kind} {ts rest : List Item} {y : Tall (List Stmt)} → Sp
 simple_tall (x.step d) = step_tall d
 simple_tall (x.declare all) = declarators_tall all
 simple_tall _ = omega arith
+
+-- ---- expressions that begin as a trylock does
+
+-- these tokens begin with `(`
+pub data AtOpen : List Item → Type 0 where
+  there : {l : ℕ} {ts : List Item} → AtOpen (sign l s.LeftParenthesis ∷ ts)
+
+pub no_open : {l : ℕ} {ts : List Item} → AtOpen (sign l s.RightParenthesis ∷ ts) → ⊥
+no_open h = elim h [ ]
+
+operator_open : {l : ℕ} {t : Sign} {ts : List Item} {o : Op} → AtOpen (sign l t ∷ ts) → operator t ≡ Some o → ⊥
+operator_open there q = none-some _ q
+
+word_unary : {l m : ℕ} {word : FixedWord} {ts rest : List Item} {v : Tall Expr} → SpellsUnary (fixed l word ∷ sign m s.LeftParenthesis ∷ ts) rest v → AtOpen rest
+word_unary (e.primary (e.name q)) = there
+word_unary (e.primary (e.argument c q)) = elim c [ ]
+
+-- no expression goes on behind a word and `(`
+pub word_open : {k l m : ℕ} {word : FixedWord} {ts rest : List Item} {v : Tall Expr} → SpellsExpression k (fixed l word ∷ sign m s.LeftParenthesis ∷ ts) rest v → AtOpen rest
+word_open (e.unary u) = word_unary u
+word_open (e.tighter h) = word_open h
+word_open (e.binary h q r i) = absurd (operator_open (word_open h) q)
+
+-- nor where `!` stands before the word
+pub not_word_open : {k j l m : ℕ} {word : FixedWord} {ts rest : List Item} {v : Tall Expr} → SpellsExpression k (sign j s.Not ∷ fixed l word ∷ sign m s.LeftParenthesis ∷ ts) rest v → AtOpen rest
+not_word_open (e.unary (e.not u)) = word_unary u
+not_word_open (e.unary (e.primary (e.name q))) = absurd (none-some _ q)
+not_word_open (e.unary (e.primary (e.argument c q))) = elim c [ ]
+not_word_open (e.tighter h) = not_word_open h
+not_word_open (e.binary h q r i) = absurd (operator_open (not_word_open h) q)
+
+-- `!` and what it stands before take two levels
+pub not_tall : {k l : ℕ} {ts rest : List Item} {v : Tall Expr} → SpellsExpression k (sign l s.Not ∷ ts) rest v → 2 ≤ v.levels
+not_tall (e.unary (e.not u)) = let le = unary_tall u in omega (arith, le)
+not_tall (e.unary (e.primary (e.name q))) = absurd (none-some _ q)
+not_tall (e.unary (e.primary (e.element q i))) = absurd (none-some _ q)
+not_tall (e.unary (e.primary (e.argument c q))) = elim c [ ]
+not_tall (e.tighter h) = not_tall h
+not_tall (e.binary h q r i) = let le = not_tall h in omega (arith, le)

@@ -9,8 +9,8 @@ use Rattle.c_tree.specs.Lined as lined
 use Rattle.c_tree.specs.Lined.{Stmt}
 use Rattle.c_grammar.specs.Items.{What, name_of}
 use Rattle.c_grammar.specs.Levels.{Tall, tall, nothing, alone, followed}
-use Rattle.c_grammar.specs.Statements.{chosen, repeated, counted}
-use Rattle.parse_laws.specs.Parser.{Got, Parser, ◌>>=◌, pure, Move, Stop, Deep, Go, must, deeper}
+use Rattle.c_grammar.specs.Statements.{Choice, chosen, repeated, counted}
+use Rattle.parse_laws.specs.Parser.{Got, Parser, ◌>>=◌, pure, Move, Stop, Deep, Go, must}
 use Rattle.parse_laws.proofs.Rooms.{by_room}
 use Rattle.parse_laws.proofs.Says.{Quiet, Live}
 use Rattle.parse_laws.proofs.Viable.{Viable, Follows, ViableMove, stops, sinks, goes, Within, Stops, Takes, follows_viable, pure_viable, pure_follows, bind_viable, bind_follows, fallback_follows, choice_viable, choice_follows, option_follows, lower_viable, stop_move, go_move, when_move, deeper_move, must_viable, must_follows}
@@ -33,24 +33,12 @@ use Rattle.c_statements.specs.declared.word.Start.TheVariants as f
 use Rattle.c_statements.specs.Words.{statement_opening, first_start, is_else}
 use Rattle.c_statements.specs.Parsers.{condition, initial_value, declared, first_by, first, given_test, middle, last, block, arm_by, arm, else_by, else_arm, choice, repetition, counting, simple_in, statement_in, statement_by, lower_in}
 use Rattle.c_statements.proofs.Openings.{statement_is, empty_is, statement_stops}
+use Rattle.c_statements.proofs.Trials.{always, level_move, trial_viable}
 use Rattle.c_statements.proofs.Tokens.{other_than_else, no_else_is, sign_no_else, right_brace}
-
--- each token
-abbrev pub always : {Token : Type 0} → Token → Bool
-always u = true
 
 -- ---- moves
 
 module _ {Token A : Type 0} {ends : Token → Bool} where
-  -- a token that opens a level, on which a part stands that is viable where there is one
-  level_move : {p : ℕ → Parser Token A} → ((r : ℕ) → 0 < r → Viable ends r p) → (r : ℕ) → ViableMove ends r (λ s. deeper (λ _. p s) s)
-  level_move {p = p} h zero = sinks refl 1 (omega arith) (p 1) refl ((h 1 (omega arith)).live 1 (omega arith))
-  level_move {p = p} h (suc m) = goes p same (h (suc m) (omega arith))
-    where
-      same : (s : ℕ) → suc m ≤ s → deeper (λ _. p s) s ≡ Go (p s)
-      same zero le = absurd (omega arith)
-      same (suc s) le = refl
-
   -- what goes in a room goes in the next with one level less
   move_up : {m : ℕ} {k l : ℕ → Move Token A} → ((s : ℕ) → l (suc s) ≡ k s) → ViableMove ends m k → ViableMove ends (suc m) l
   move_up {m = m} {k = k} {l = l} e (stops f) = stops go
@@ -82,7 +70,7 @@ abbrev pub no_else : {Token : Type 0} → Sight Token → Token → Bool
 no_else v u = other_than_else (seen v u)
 
 module _ {Token : Type 0} (v : Sight Token) (words : Words v) (nought : SeenAs v (λ a. a ≡ What.Number 0)) where
-  -- ---- what is tested
+  -- ---- what `while` tests
 
   ended_viable : {A : Type 0} {ends : Token → Bool} (x : Sign) → closes v (words.sign x) ≡ true → (make : Tall Expr → A) (r : ℕ) → 0 < r → Viable ends r (λ s. expression v s >>= λ e. close v x (fits s e.levels) (pure (make e)))
   ended_viable x c make r lt = after_viable (expression_completes v words r lt) (close_after v words x c (λ e. pure_viable))
@@ -166,13 +154,13 @@ module _ {Token : Type 0} (v : Sight Token) (words : Words v) (nought : SeenAs v
       unfolding arm
       arm_follows = choice_follows arm_moves (words.sign signs.LeftBrace) refl (λ s le. rw (is_itself v words signs.LeftBrace) refl) block_viable
 
-      else_stop : (l : ℕ) (e : Tall Expr) (one : Tall (List Stmt)) → Stops (no_else v) (λ s u. else_by v (K s) l e one u)
+      else_stop : (l : ℕ) (e : Tall Choice) (one : Tall (List Stmt)) → Stops (no_else v) (λ s u. else_by v (K s) l e one u)
       else_stop l e one s u h = rw (no_else_is (seen v u) h) refl
 
       choice_is_viable : (l : ℕ) → 0 < r → Viable (no_else v) r (λ s. choice v s (K s) l)
       unfolding choice
       choice_is_viable l lt =
-          bind_viable (condition_viable {ends = always} r lt) (λ e. bind_follows arm_follows (λ one. option_follows (λ u h. h) (else_stop l e one)
+          bind_viable (trial_viable v words nought {ends = always} r lt) (λ e. bind_follows arm_follows (λ one. option_follows (λ u h. h) (else_stop l e one)
           (λ u. when_move (is_else (seen v u)) (λ h. bind_viable arm_viable (λ two. pure_follows (λ w q. q))))))
 
       repetition_viable : (l : ℕ) → 0 < r → Viable (no_else v) r (λ s. repetition v s (K s) l)
@@ -203,7 +191,7 @@ module _ {Token : Type 0} (v : Sight Token) (words : Words v) (nought : SeenAs v
     unfolding last
     last_reads r z = rw (is_itself v words signs.RightParenthesis) refl
 
-    else_reads : (room l : ℕ) (e : Tall Expr) (one : Tall (List Stmt)) (z : List Token) → Quiet (no_else v) z → else_arm v (K room) l e one z ≡ Got (chosen l e one nothing) z
+    else_reads : (room l : ℕ) (e : Tall Choice) (one : Tall (List Stmt)) (z : List Token) → Quiet (no_else v) z → else_arm v (K room) l e one z ≡ Got (chosen l e one nothing) z
     else_reads room l e one [] q = refl
     else_reads room l e one (u ∷ z) q = rw (no_else_is (seen v u) q) refl
 
@@ -218,7 +206,7 @@ module _ {Token : Type 0} (v : Sight Token) (words : Words v) (nought : SeenAs v
     choice_live : (l : ℕ) → Live (no_else v) (λ z o. choice v 1 (K 1) l z ≡ o)
     unfolding choice
     choice_live l =
-        let c = (condition_viable {ends = always} 1 (omega arith)).live 1 (omega arith) in
+        let c = (trial_viable v words nought {ends = always} 1 (omega arith)).live 1 (omega arith) in
         record {
           word = c.word ++ words.sign signs.Semicolon ∷ [];
           value = chosen l c.value nothing nothing;

@@ -3,40 +3,123 @@
 -- The room of a statement is how many levels it may take, its own among them. What `if` and `while` test takes a level
 -- itself, so they need two. The parts of a `for` may all be missing, and its first part and its step begin on the level
 -- of the `for` itself. An arm in braces takes no level of its own, and neither does a `;` alone.
-use Rattle.std.specs.Prelude.{ℕ, zero, suc, Bool, true, false, ◌||◌, ◌&&◌, if◌then◌else◌, List, [], ◌∷◌, ◌++◌, Option, Some, None}
+use Rattle.std.specs.Prelude.{ℕ, zero, suc, ◌-◌, Bool, true, false, ◌||◌, ◌&&◌, if◌then◌else◌, List, [], ◌∷◌, ◌++◌, Option, Some, None}
 use Rattle.c_lexer.specs.declared.token.Sign.TheVariants as s
 use Rattle.c_tree.specs.declared.program.Kind.{Kind}
 use Rattle.c_tree.specs.declared.program.Kind.TheVariants as kinds
 use Rattle.c_tree.specs.declared.program.Slot.{Slot}
 use Rattle.c_tree.specs.Expressions as tree
-use Rattle.c_tree.specs.Expressions.{Expr}
+use Rattle.c_tree.specs.Expressions.{Expr, Place}
 use Rattle.c_tree.specs.Lined as lined
 use Rattle.c_tree.specs.Lined.{Stmt}
-use Rattle.c_grammar.specs.Levels.{Tall, tall, nothing, alone, followed}
-use Rattle.c_grammar.specs.Statements.{chosen, repeated, counted, Body, body_then, body_with}
+use Rattle.c_grammar.specs.Levels.{Tall, tall, over, nothing, alone, followed}
+use Rattle.c_grammar.specs.Statements.{Choice, Value, Taken, Busy, chosen, repeated, counted, Body, body_then, body_with}
 use Rattle.parse_laws.specs.declared.fault.Fault.{Fault}
 use Rattle.parse_laws.specs.declared.fault.Fault.TheVariants.{Syntax, TooDeep}
 use Rattle.parse_laws.specs.Parser.{Parser, ◌>>=◌, pure, refuse, Move, Stop, Deep, Go, commit, and_go, when, must, deeper, loop, many}
-use Rattle.c_expressions.specs.Parsers.{Sight, seen, is, named, fits, close, expression}
+use Rattle.c_expressions.specs.Parsers.{Sight, seen, is, named, fits, close, expression, address}
 use Rattle.c_simple.specs.Words.{number_of}
 use Rattle.c_simple.specs.Parsers.{line, simple_by, step_by, begins_simple}
 use Rattle.c_statements.specs.declared.word.Opening.{Opening}
 use Rattle.c_statements.specs.declared.word.Opening.TheVariants as o
+use Rattle.c_statements.specs.declared.word.Question.{Question}
+use Rattle.c_statements.specs.declared.word.Question.TheVariants as q
+use Rattle.c_statements.specs.declared.word.Comparison.{Comparison}
+use Rattle.c_statements.specs.declared.word.Comparison.TheVariants as c
 use Rattle.c_statements.specs.declared.word.Start.{Start}
 use Rattle.c_statements.specs.declared.word.Start.TheVariants as f
 use Rattle.c_statements.specs.declared.word.Thread.{Thread}
 use Rattle.c_statements.specs.declared.word.Thread.TheVariants as t
-use Rattle.c_statements.specs.Words.{statement_opening, first_start, thread_opening, is_else, is_static, is_thread_type, begins}
+use Rattle.c_statements.specs.Words.{statement_opening, asks, behind_try, is_try, is_zero, first_start, thread_opening, is_else, is_static, is_thread_type, begins}
 
--- ---- what is tested
+-- ---- what `while` tests
 
 -- an expression and the `)` behind it, on r levels
 abbrev pub tested : {Token : Type 0} → Sight Token → ℕ → Parser Token (Tall Expr)
 tested v r = expression v r >>= λ e. close v s.RightParenthesis (fits r e.levels) (pure e)
 
--- the parentheses behind `if` and `while`
+-- the parentheses behind `while`
 unfoldable pub condition : {Token : Type 0} → Sight Token → ℕ → Parser Token (Tall Expr)
 condition v r = must (is v s.LeftParenthesis) (tested v r)
+
+-- ---- what `if` tests
+
+abbrev pub as_value : Tall Expr → Tall Choice
+as_value e = tall (Value e.tree) e.levels
+
+-- a trylock has a level, as an expression has there, and `!` takes one more
+abbrev pub as_busy : Tall Place → Tall Choice
+as_busy p = over (Busy p.tree) p.levels
+
+abbrev pub as_taken : Tall Place → Tall Choice
+as_taken p = over (Taken p.tree) p.levels
+
+abbrev pub as_negated : Tall Place → Tall Choice
+as_negated p = over (Taken p.tree) (suc p.levels)
+
+-- an expression and the `)` behind it, on r levels
+abbrev pub valued : {Token : Type 0} → Sight Token → ℕ → Parser Token (Tall Choice)
+valued v r = expression v r >>= λ e. close v s.RightParenthesis (fits r e.levels) (pure (as_value e))
+
+-- & place )
+unfoldable pub tried : {Token : Type 0} → Sight Token → ℕ → Parser Token (Tall Place)
+tried v r = address v r >>= λ p. must (is v s.RightParenthesis) (pure p)
+
+-- 0 )
+abbrev pub zero_behind : {Token : Type 0} → Sight Token → Tall Choice → Parser Token (Tall Choice)
+zero_behind v x = must (λ u. is_zero (seen v u)) (must (is v s.RightParenthesis) (pure x))
+
+abbrev pub compared_by : {Token : Type 0} → Sight Token → Tall Place → Comparison → Move Token (Tall Choice)
+compared_by v p c.End = Go (pure (as_busy p))
+compared_by v p c.Equal = Go (zero_behind v (as_taken p))
+compared_by v p c.NotEqual = Go (zero_behind v (as_busy p))
+compared_by v p c.Other = Stop
+
+-- behind a trylock: what it is compared with, or nothing, and `)`
+unfoldable pub compared : {Token : Type 0} → Sight Token → Tall Place → Parser Token (Tall Choice)
+compared v p = commit (λ u. compared_by v p (behind_try (seen v u))) refuse
+
+-- behind a trylock that `!` stands before
+abbrev pub uncompared : {Token : Type 0} → Sight Token → Tall Place → Parser Token (Tall Choice)
+uncompared v p = must (is v s.RightParenthesis) (pure (as_negated p))
+
+-- behind the name of the trylock and `(`
+abbrev pub called : {Token : Type 0} → Sight Token → ℕ → Parser Token (Tall Choice)
+called v r = tried v r >>= compared v
+
+-- the same, where `!` stands before it
+abbrev pub called_behind_not : {Token : Type 0} → Sight Token → ℕ → Parser Token (Tall Choice)
+called_behind_not v r = tried v r >>= uncompared v
+
+-- behind the name of the trylock: its call, or else an expression that begins with that name, the token u
+unfoldable pub plain : {Token : Type 0} → Sight Token → ℕ → Token → Parser Token (Tall Choice)
+plain v r u = commit (λ t. when (is v s.LeftParenthesis t) (called v (r - 1))) (λ ts. valued v r (u ∷ ts))
+
+-- the same behind `!`, the token u; t is the name
+unfoldable pub negated : {Token : Type 0} → Sight Token → ℕ → Token → Token → Parser Token (Tall Choice)
+negated v r u t = commit (λ x. when (is v s.LeftParenthesis x) (called_behind_not v (r - 2))) (λ ts. valued v r (u ∷ t ∷ ts))
+
+-- behind `!`, the token u: the name of the trylock, or else an expression that `!` begins
+unfoldable pub behind_not : {Token : Type 0} → Sight Token → ℕ → Token → Parser Token (Tall Choice)
+behind_not v r u = commit (λ t. when (is_try (seen v t)) (negated v r u t)) (λ ts. valued v r (u ∷ ts))
+
+-- a token that opens two levels
+abbrev pub two_deeper : {Token A : Type 0} → Parser Token A → ℕ → Move Token A
+two_deeper p zero = Deep
+two_deeper p (suc r) = deeper (λ _. p) r
+
+abbrev pub asked_by : {Token : Type 0} → Sight Token → ℕ → Token → Question → Move Token (Tall Choice)
+asked_by v r u q.TryLock = deeper (λ _. plain v r u) r
+asked_by v r u q.Not = two_deeper (behind_not v r u) r
+asked_by v r u q.Expression = Stop
+
+-- a trylock or an expression, and the `)` behind it, on r levels
+unfoldable pub asked : {Token : Type 0} → Sight Token → ℕ → Parser Token (Tall Choice)
+asked v r = commit (λ u. asked_by v r u (asks (seen v u))) (valued v r)
+
+-- the parentheses behind `if`
+unfoldable pub trial : {Token : Type 0} → Sight Token → ℕ → Parser Token (Tall Choice)
+trial v r = must (is v s.LeftParenthesis) (asked v r)
 
 -- ---- the parts of a `for`, where r levels may stand below its own
 
@@ -85,19 +168,19 @@ arm v lower = commit (arm_by v lower) refuse
 -- ---- statements that hold others, on the line of their first word
 
 -- behind `else`
-abbrev pub second_arm : {Token : Type 0} → Sight Token → (Token → Move Token (Tall (List Stmt))) → ℕ → Tall Expr → Tall (List Stmt) → Parser Token (Tall (List Stmt))
+abbrev pub second_arm : {Token : Type 0} → Sight Token → (Token → Move Token (Tall (List Stmt))) → ℕ → Tall Choice → Tall (List Stmt) → Parser Token (Tall (List Stmt))
 second_arm v lower at_line e one = arm v lower >>= λ two. pure (chosen at_line e one two)
 
-abbrev pub else_by : {Token : Type 0} → Sight Token → (Token → Move Token (Tall (List Stmt))) → ℕ → Tall Expr → Tall (List Stmt) → Token → Move Token (Tall (List Stmt))
+abbrev pub else_by : {Token : Type 0} → Sight Token → (Token → Move Token (Tall (List Stmt))) → ℕ → Tall Choice → Tall (List Stmt) → Token → Move Token (Tall (List Stmt))
 else_by v lower at_line e one u = when (is_else (seen v u)) (second_arm v lower at_line e one)
 
 -- behind the first arm of an `if`
-abbrev pub else_arm : {Token : Type 0} → Sight Token → (Token → Move Token (Tall (List Stmt))) → ℕ → Tall Expr → Tall (List Stmt) → Parser Token (Tall (List Stmt))
+abbrev pub else_arm : {Token : Type 0} → Sight Token → (Token → Move Token (Tall (List Stmt))) → ℕ → Tall Choice → Tall (List Stmt) → Parser Token (Tall (List Stmt))
 else_arm v lower at_line e one = commit (else_by v lower at_line e one) (pure (chosen at_line e one nothing))
 
 -- behind `if`
 unfoldable pub choice : {Token : Type 0} → Sight Token → ℕ → (Token → Move Token (Tall (List Stmt))) → ℕ → Parser Token (Tall (List Stmt))
-choice v r lower at_line = condition v r >>= λ e. arm v lower >>= λ one. else_arm v lower at_line e one
+choice v r lower at_line = trial v r >>= λ e. arm v lower >>= λ one. else_arm v lower at_line e one
 
 -- behind `while`
 unfoldable pub repetition : {Token : Type 0} → Sight Token → ℕ → (Token → Move Token (Tall (List Stmt))) → ℕ → Parser Token (Tall (List Stmt))

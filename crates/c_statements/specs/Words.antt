@@ -1,11 +1,15 @@
 -- What tokens stand for in statements.
-use Rattle.std.specs.Prelude.{Bool, true, false}
+use Rattle.std.specs.Prelude.{nat_eq, Bool, true, false}
 use Rattle.c_lexer.specs.declared.token.Sign.TheVariants as s
 use Rattle.c_grammar.specs.declared.words.FixedWord.TheVariants as w
 use Rattle.c_grammar.specs.Items.{What}
 use Rattle.c_simple.specs.Parsers.{begins_simple_at}
 use Rattle.c_statements.specs.declared.word.Opening.{Opening}
 use Rattle.c_statements.specs.declared.word.Opening.TheVariants as o
+use Rattle.c_statements.specs.declared.word.Question.{Question}
+use Rattle.c_statements.specs.declared.word.Question.TheVariants as q
+use Rattle.c_statements.specs.declared.word.Comparison.{Comparison}
+use Rattle.c_statements.specs.declared.word.Comparison.TheVariants as c
 use Rattle.c_statements.specs.declared.word.Start.{Start}
 use Rattle.c_statements.specs.declared.word.Start.TheVariants as f
 use Rattle.c_statements.specs.declared.word.Thread.{Thread}
@@ -18,6 +22,29 @@ statement_opening (What.Fixed w.If) = o.If
 statement_opening (What.Fixed w.While) = o.While
 statement_opening (What.Fixed w.For) = o.For
 statement_opening other = o.Simple
+
+-- how a token begins what an `if` tests: by the name of the trylock, by `!`, which may stand before it, or as an expression, if at all
+abbrev pub asks : What → Question
+asks (What.Fixed w.TryLock) = q.TryLock
+asks (What.Sign s.Not) = q.Not
+asks other = q.Expression
+
+-- what stands behind a trylock: the `)`, `==` or `!=`
+abbrev pub behind_try : What → Comparison
+behind_try (What.Sign s.RightParenthesis) = c.End
+behind_try (What.Sign s.Equal) = c.Equal
+behind_try (What.Sign s.NotEqual) = c.NotEqual
+behind_try other = c.Other
+
+-- the name of the trylock
+abbrev pub is_try : What → Bool
+is_try (What.Fixed w.TryLock) = true
+is_try other = false
+
+-- what a trylock is compared with
+abbrev pub is_zero : What → Bool
+is_zero (What.Number value) = nat_eq value 0
+is_zero other = false
 
 -- how a token begins the first part of a `for`: as the `;` behind no part, by `int`, or as a step, if at all
 abbrev pub first_start : What → Start

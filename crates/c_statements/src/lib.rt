@@ -8,5 +8,6 @@ pub mod body;
 pub mod part;
 pub mod slot;
 pub mod statement;
+pub mod tested;
 pub mod tree;
 pub mod word;

@@ -1,4 +1,4 @@
-//! The parser of what `if`, `while` and `for` have in their parentheses. Each function reads what the function of
+//! The parser of what `while` and `for` have in their parentheses. Each function reads what the function of
 //! its name in `specs/` does.
 
 ghost use Rattle.std.specs.Prelude.{◌≡◌, ◌+◌, ◌≤◌, IfOk};

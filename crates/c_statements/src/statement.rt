@@ -7,10 +7,12 @@ ghost use Rattle.c_grammar.specs.Levels as grammar;
 ghost use Rattle.parse_laws.specs.Parser.{commit, many, refuse};
 ghost use Rattle.c_expressions.specs.Gives.{sight, tall_of};
 ghost use Rattle.c_simple.specs.Gives.{GivesStatements, statements_of};
+ghost use Rattle.c_statements.specs.Gives.{choice_of};
 ghost use Rattle.c_statements.specs.Parsers as spec;
 
 use crate::part::{condition, first, last, middle};
-use crate::tree::{Parts, chosen, counted, nothing, repeated};
+use crate::tested::trial;
+use crate::tree::{Parts, Test, chosen, counted, nothing, repeated};
 use crate::word::{Opening, begins, is_else, statement_opening};
 use c_expressions::expression::sign;
 use c_expressions::tall::Tall;
@@ -19,7 +21,7 @@ use c_lexer::Sign;
 use c_simple::assignments::ParsedStatements;
 use c_simple::simple::{begins_simple, simple};
 use c_simple::trees::followed;
-use c_tree::{Expr, Kind, Stmts};
+use c_tree::{Kind, Stmts};
 use parse_laws::fault::{Fault, Refusal};
 use parse_laws::token::next;
 use std::alloc::Global;
@@ -112,14 +114,14 @@ fn second_arm<'a>(
     kind: Kind,
     room: u8,
     line: u32,
-    test: Tall<Expr>,
+    test: Tall<Test>,
     one: Tall<Stmts>,
     tokens: &'a [Marked],
 ) -> ParsedStatements<'a>
     requires small { room ≤ 64 }
     requires test { test.levels ≤ room }
     requires one { one.levels ≤ room }
-    ensures gives { GivesStatements result (spec.second_arm (sight setting.entry) (spec.statement_by (sight setting.entry) kind room) line (tall_of expr_of test) (tall_of statements_of one) tokens.now) }
+    ensures gives { GivesStatements result (spec.second_arm (sight setting.entry) (spec.statement_by (sight setting.entry) kind room) line (tall_of choice_of test) (tall_of statements_of one) tokens.now) }
     ensures low { IfOk result (λ x. x.0.levels ≤ room + 1) }
 {
     let (two, rest) = arm(alloc, setting, kind, room, tokens)?;
@@ -134,14 +136,14 @@ fn else_arm<'a>(
     kind: Kind,
     room: u8,
     line: u32,
-    test: Tall<Expr>,
+    test: Tall<Test>,
     one: Tall<Stmts>,
     tokens: &'a [Marked],
 ) -> ParsedStatements<'a>
     requires small { room ≤ 64 }
     requires test { test.levels ≤ room }
     requires one { one.levels ≤ room }
-    ensures gives { GivesStatements result (spec.else_arm (sight setting.entry) (spec.statement_by (sight setting.entry) kind room) line (tall_of expr_of test) (tall_of statements_of one) tokens.now) }
+    ensures gives { GivesStatements result (spec.else_arm (sight setting.entry) (spec.statement_by (sight setting.entry) kind room) line (tall_of choice_of test) (tall_of statements_of one) tokens.now) }
     ensures low { IfOk result (λ x. x.0.levels ≤ room + 1) }
 {
     match next(tokens) {
@@ -171,7 +173,7 @@ fn choice<'a>(
     ensures gives { GivesStatements result (spec.choice (sight setting.entry) room (spec.statement_by (sight setting.entry) kind room) line tokens.now) }
     ensures low { IfOk result (λ x. x.0.levels ≤ room + 1) }
 {
-    let (test, rest) = condition(alloc, setting, room, tokens)?;
+    let (test, rest) = trial(alloc, setting, room, tokens)?;
     let (one, rest) = arm(alloc, setting, kind, room, rest)?;
     else_arm(alloc, setting, kind, room, line, test, one, rest)
 }

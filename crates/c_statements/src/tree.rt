@@ -1,16 +1,17 @@
 //! What statements are made of.
 
-ghost use Rattle.std.specs.Prelude.{◌≡◌, ◌∷◌, ◌<◌, [], IfOk, Some, None};
+ghost use Rattle.std.specs.Prelude.{◌≡◌, ℕ, ◌∷◌, ◌<◌, [], IfOk, Some, None};
 ghost use Rattle.c_tree.specs.Expressions.{expr_of};
 ghost use Rattle.c_tree.specs.Lined as lined;
 ghost use Rattle.c_grammar.specs.Levels as grammar;
 ghost use Rattle.c_grammar.specs.Statements as spelled;
 ghost use Rattle.c_expressions.specs.Gives.{tall_of};
 ghost use Rattle.c_simple.specs.Gives.{statements_of};
+ghost use Rattle.c_statements.specs.Gives.{choice_of};
 
 use c_expressions::tall::Tall;
 use c_simple::trees::alone;
-use c_tree::{Act, Expr, Stmt, Stmts};
+use c_tree::{Act, Expr, Place, Stmt, Stmts};
 use sqlite_items::Items;
 use std::alloc::{AllocError, Global};
 
@@ -41,25 +42,55 @@ pub fn initialised(
     alone(alloc, line, act, value.levels)
 }
 
+/// What an `if` tests.
+#[derive(Debug, Drop)]
+pub enum Test {
+    /// An expression.
+    Value(Expr),
+    /// A trylock, where the first arm is that of a mutex that was taken.
+    Taken(Place),
+    /// A trylock, where the first arm is that of a mutex that was busy.
+    Busy(Place),
+}
+
+// The act of an `if`, with the arms in the order of the text.
+fn decided(test: Test, one: Stmts, two: Stmts) -> Act
+    ensures { (line : ℕ) → lined.stmt_of (record { line = line; act = result }) ≡ spelled.choice line (choice_of test) (statements_of one) (statements_of two) }
+{
+    match test {
+        Test::Value(test) => Act::If {
+            test,
+            then_arm: one,
+            else_arm: two,
+        },
+        Test::Taken(place) => Act::TryLock {
+            place,
+            taken: one,
+            busy: two,
+        },
+        Test::Busy(place) => Act::TryLock {
+            place,
+            taken: two,
+            busy: one,
+        },
+    }
+}
+
 /// `if`
 pub fn chosen(
     alloc: Global,
     line: u32,
-    test: Tall<Expr>,
+    test: Tall<Test>,
     one: Tall<Stmts>,
     two: Tall<Stmts>,
 ) -> Result<Tall<Stmts>, AllocError>
     requires test { test.levels < 200 }
     requires one { one.levels < 200 }
     requires two { two.levels < 200 }
-    ensures { IfOk result (λ x. tall_of statements_of x ≡ spelled.chosen line (tall_of expr_of test) (tall_of statements_of one) (tall_of statements_of two)) }
+    ensures { IfOk result (λ x. tall_of statements_of x ≡ spelled.chosen line (tall_of choice_of test) (tall_of statements_of one) (tall_of statements_of two)) }
 {
     let below = test.levels.max(one.levels.max(two.levels));
-    let act = Act::If {
-        test: test.tree,
-        then_arm: one.tree,
-        else_arm: two.tree,
-    };
+    let act = decided(test.tree, one.tree, two.tree);
     alone(alloc, line, act, below)
 }
 

@@ -26,6 +26,30 @@ pub enum Opening {
     Simple,
 }
 
+/// How a token begins what an `if` tests.
+#[derive(Clone, Copy, Debug, PartialEq, Eq)]
+pub enum Question {
+    /// By the name of the trylock.
+    TryLock,
+    /// By `!`, which may stand before it.
+    Not,
+    /// As an expression, if at all.
+    Expression,
+}
+
+/// What stands behind a trylock.
+#[derive(Clone, Copy, Debug, PartialEq, Eq)]
+pub enum Comparison {
+    /// `)`
+    End,
+    /// `==`
+    Equal,
+    /// `!=`
+    NotEqual,
+    /// Anything else.
+    Other,
+}
+
 /// How a token begins the first part of a `for`.
 #[derive(Clone, Copy, Debug, PartialEq, Eq)]
 pub enum Start {
@@ -58,6 +82,46 @@ pub fn statement_opening(what: What) -> Opening
         What::Fixed(FixedWord::While) => Opening::While,
         What::Fixed(FixedWord::For) => Opening::For,
         _ => Opening::Simple,
+    }
+}
+
+/// How a token begins what an `if` tests.
+pub fn asks(what: What) -> Question
+    ensures { (text : List ℕ) → result ≡ spec.asks (what_of text what) }
+{
+    match what {
+        What::Fixed(FixedWord::TryLock) => Question::TryLock,
+        What::Sign(Sign::Not) => Question::Not,
+        _ => Question::Expression,
+    }
+}
+
+/// What stands behind a trylock.
+pub fn behind_try(what: What) -> Comparison
+    ensures { (text : List ℕ) → result ≡ spec.behind_try (what_of text what) }
+{
+    match what {
+        What::Sign(Sign::RightParenthesis) => Comparison::End,
+        What::Sign(Sign::Equal) => Comparison::Equal,
+        What::Sign(Sign::NotEqual) => Comparison::NotEqual,
+        _ => Comparison::Other,
+    }
+}
+
+/// Whether a token is the name of the trylock.
+pub fn is_try(what: What) -> bool
+    ensures { (text : List ℕ) → result ≡ spec.is_try (what_of text what) }
+{
+    matches!(what, What::Fixed(FixedWord::TryLock))
+}
+
+/// Whether a token is the number 0.
+pub fn is_zero(what: What) -> bool
+    ensures { (text : List ℕ) → result ≡ spec.is_zero (what_of text what) }
+{
+    match what {
+        What::Number(value) => value == 0,
+        _ => false,
     }
 }
 

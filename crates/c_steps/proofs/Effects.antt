@@ -60,20 +60,20 @@ waited_as_other s t frames condition mutex (Some None) e = refl
 waited_as_other s t frames condition mutex None e = refl
 
 -- what a thread does to the tokens of a monitor
-pub taken_where_free : (s : run.State) (t : ℕ) (frames : List run.Frame) (monitor capacity : ℕ) (row : List ℕ) → nat_lt (sum row) capacity ≡ true
-    → taken s t frames monitor (Some capacity) (Some row) ≡ Done (did.Take monitor) (holding s t frames monitor row (suc (held_by row t)))
-taken_where_free s t frames monitor capacity row e = rw e refl
+pub taken_where_free : (s : run.State) (t : ℕ) (status : run.Status) (monitor capacity : ℕ) (row : List ℕ) → nat_lt (sum row) capacity ≡ true
+    → taken s t status monitor (Some capacity) (Some row) ≡ Done (did.Take monitor) (holding s t status monitor row (suc (held_by row t)))
+taken_where_free s t status monitor capacity row e = rw e refl
 
-pub taken_where_full : (s : run.State) (t : ℕ) (frames : List run.Frame) (monitor capacity : ℕ) (row : List ℕ) → nat_lt (sum row) capacity ≡ false
-    → taken s t frames monitor (Some capacity) (Some row) ≡ NotEnabled
-taken_where_full s t frames monitor capacity row e = rw e refl
+pub taken_where_full : (s : run.State) (t : ℕ) (status : run.Status) (monitor capacity : ℕ) (row : List ℕ) → nat_lt (sum row) capacity ≡ false
+    → taken s t status monitor (Some capacity) (Some row) ≡ NotEnabled
+taken_where_full s t status monitor capacity row e = rw e refl
 
-pub taken_of_none : (s : run.State) (t : ℕ) (frames : List run.Frame) (monitor : ℕ) (capacity : Option ℕ) → taken s t frames monitor capacity None ≡ Undefined
-taken_of_none s t frames monitor (Some capacity) = refl
-taken_of_none s t frames monitor None = refl
+pub taken_of_none : (s : run.State) (t : ℕ) (status : run.Status) (monitor : ℕ) (capacity : Option ℕ) → taken s t status monitor capacity None ≡ Undefined
+taken_of_none s t status monitor (Some capacity) = refl
+taken_of_none s t status monitor None = refl
 
 pub given_where_held : (s : run.State) (t : ℕ) (frames : List run.Frame) (monitor held left : ℕ) (row : List ℕ) → held ≡ left + 1
-    → given_from s t frames monitor row held ≡ Done (did.Give monitor) (holding s t frames monitor row left)
+    → given_from s t frames monitor row held ≡ Done (did.Give monitor) (holding s t (run.Running frames) monitor row left)
 given_where_held s t frames monitor held left row e = let one : held ≡ suc left = omega (arith, e) in ap (given_from s t frames monitor row) one
 
 -- a thread holds no more tokens than all threads do

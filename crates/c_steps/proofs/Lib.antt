@@ -8,4 +8,5 @@ pub mod Rows
 pub mod Shown
 pub mod WaitsEnd
 pub mod Wakings
+pub mod Takes
 pub mod Started

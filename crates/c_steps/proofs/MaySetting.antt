@@ -4,7 +4,7 @@ use Rattle.std.specs.Prelude.{reverse, slice_get}
 use Rattle.std.proofs.lemmas.Option.{same_Some}
 use Rattle.c_tree.specs.Bare as bare
 use Rattle.c_tree.specs.Bare.{Stmt, Stmts, Nil, Cons}
-use Rattle.c_frames.specs.Everywhere.{Everywhere, EverywhereInside}
+use Rattle.c_tree.specs.Everywhere.{Everywhere, EverywhereInside}
 use Rattle.c_frames.specs.Names.{target, SetsAmong}
 use Rattle.c_frames.specs.declared.frames.Frame.{Frame}
 use Rattle.c_frames.specs.declared.names.LocalNames.{LocalNames}
@@ -24,6 +24,7 @@ mutual
   each_inside P (bare.If test then_arm else_arm) all = (each_of P then_arm (λ i. (all i).0), each_of P else_arm (λ i. (all i).1))
   each_inside P (bare.While test body) all = each_of P body all
   each_inside P (bare.For first_part test step body) all = (each_of P first_part (λ i. (all i).0), each_of P step (λ i. (all i).1), each_of P body (λ i. (all i).2))
+  each_inside P (bare.TryLock place taken busy) all = (each_of P taken (λ i. (all i).0), each_of P busy (λ i. (all i).1))
   each_inside P (bare.Declare name e) all = tt
   each_inside P (bare.Assign target e) all = tt
   each_inside P (bare.Call target function args) all = tt
@@ -36,7 +37,7 @@ mutual
   each_inside P (bare.InitCond place) all = tt
   each_inside P (bare.Lock place) all = tt
   each_inside P (bare.Unlock place) all = tt
-  each_inside P (bare.Wait cond mutex) all = tt
+  each_inside P (bare.Wait cond mutex takes) all = tt
   each_inside P (bare.Signal cond) all = tt
   each_inside P (bare.Broadcast cond) all = tt
   each_inside P (bare.Take monitor) all = tt

@@ -98,17 +98,24 @@ lock_is s place is =
     ∙ ap (λ a. fold-Act (ℕ → lined.Stmt) lined.Stmt act_layer stmt_layer a s.line) (is ∙ sym (act.rolls-Lock place))
     ∙ ap (λ f. f s.line) (fold-roll-Act (ℕ → lined.Stmt) lined.Stmt act_layer stmt_layer (act_open.Lock place)))
 
+pub try_lock_is : (s : declared.Stmt) (place : declared_place.Place) (taken busy : List declared.Stmt) → s.act ≡ act.TryLock place taken busy
+    → shown_stmt s ≡ bare.TryLock (place_of place) (shown_body taken) (shown_body busy)
+try_lock_is s place taken busy is =
+    ap bare_stmt (fold_out-Stmt (ℕ → lined.Stmt) lined.Stmt act_layer stmt_layer s
+    ∙ ap (λ a. fold-Act (ℕ → lined.Stmt) lined.Stmt act_layer stmt_layer a s.line) (is ∙ sym (act.rolls-TryLock place taken busy))
+    ∙ ap (λ f. f s.line) (fold-roll-Act (ℕ → lined.Stmt) lined.Stmt act_layer stmt_layer (act_open.TryLock place taken busy)))
+
 pub unlock_is : (s : declared.Stmt) (place : declared_place.Place) → s.act ≡ act.Unlock place → shown_stmt s ≡ bare.Unlock (place_of place)
 unlock_is s place is =
     ap bare_stmt (fold_out-Stmt (ℕ → lined.Stmt) lined.Stmt act_layer stmt_layer s
     ∙ ap (λ a. fold-Act (ℕ → lined.Stmt) lined.Stmt act_layer stmt_layer a s.line) (is ∙ sym (act.rolls-Unlock place))
     ∙ ap (λ f. f s.line) (fold-roll-Act (ℕ → lined.Stmt) lined.Stmt act_layer stmt_layer (act_open.Unlock place)))
 
-pub wait_is : (s : declared.Stmt) (cond mutex : declared_place.Place) → s.act ≡ act.Wait cond mutex → shown_stmt s ≡ bare.Wait (place_of cond) (place_of mutex)
-wait_is s cond mutex is =
+pub wait_is : (s : declared.Stmt) (cond mutex : declared_place.Place) (takes : List ℕ) → s.act ≡ act.Wait cond mutex takes → shown_stmt s ≡ bare.Wait (place_of cond) (place_of mutex) takes
+wait_is s cond mutex takes is =
     ap bare_stmt (fold_out-Stmt (ℕ → lined.Stmt) lined.Stmt act_layer stmt_layer s
-    ∙ ap (λ a. fold-Act (ℕ → lined.Stmt) lined.Stmt act_layer stmt_layer a s.line) (is ∙ sym (act.rolls-Wait cond mutex))
-    ∙ ap (λ f. f s.line) (fold-roll-Act (ℕ → lined.Stmt) lined.Stmt act_layer stmt_layer (act_open.Wait cond mutex)))
+    ∙ ap (λ a. fold-Act (ℕ → lined.Stmt) lined.Stmt act_layer stmt_layer a s.line) (is ∙ sym (act.rolls-Wait cond mutex takes))
+    ∙ ap (λ f. f s.line) (fold-roll-Act (ℕ → lined.Stmt) lined.Stmt act_layer stmt_layer (act_open.Wait cond mutex takes)))
 
 pub signal_is : (s : declared.Stmt) (cond : declared_place.Place) → s.act ≡ act.Signal cond → shown_stmt s ≡ bare.Signal (place_of cond)
 signal_is s cond is =

@@ -9,7 +9,7 @@ use Rattle.c_meaning.proofs.Reading.{unwritten}
 use Rattle.c_meaning.specs.declared.Did.TheVariants as did
 use Rattle.c_meaning.specs.Outcome.{NotEnabled, Done}
 use Rattle.c_meaning.specs.Threads.{joined_to}
-use Rattle.c_meaning.specs.Waits.{awakened, woken_by}
+use Rattle.c_meaning.specs.Waits.{acquires_again, awakened, woken_by}
 use Rattle.state_parts.specs.declared.threads.Doing.{Doing}
 use Rattle.state_parts.specs.declared.threads.Doing.TheVariants.{NotBegun, Running, Waiting, Reacquiring, Ended}
 use Rattle.state_parts.specs.declared.threads.Thread.{Thread}
@@ -24,12 +24,12 @@ use Rattle.state_parts.specs.Waiting.{mutex_waiting, woken_with, doing_awakened,
 awakened_as : (condition : ℕ) (doing : Doing) (frames : List run.Frame) → status_with (doing_awakened condition doing) frames ≡ awakened condition (status_with doing frames)
 awakened_as condition (Waiting c mutex) frames = go (c == condition)
   where
-    go : (b : Bool) → status_with (woken_with (Waiting c mutex) (cond b (Some mutex) None)) frames ≡ cond b (run.Reacquiring mutex frames) (run.Waiting c mutex frames)
+    go : (b : Bool) → status_with (woken_with (Waiting c mutex) (cond b (Some mutex) None)) frames ≡ cond b (acquires_again mutex frames) (run.Waiting c mutex frames)
     go true = refl
     go false = refl
 awakened_as condition NotBegun frames = refl
 awakened_as condition Running frames = refl
-awakened_as condition (Reacquiring mutex) frames = refl
+awakened_as condition (Reacquiring mutex taken) frames = refl
 awakened_as condition Ended frames = refl
 
 pub all_as : (p : Program) (tables : Tables) (condition : ℕ) (threads : List Thread) → map (status_of p tables) (map (thread_awakened condition) threads) ≡ map (awakened condition) (map (status_of p tables) threads)
@@ -55,39 +55,39 @@ frames_same : (doing : Doing) (some others : List run.Frame) (condition mutex : 
 frames_same NotBegun some others condition mutex e = absurd cc
 frames_same Running some others condition mutex e = absurd cc
 frames_same (Waiting c m) some others condition mutex e = cc
-frames_same (Reacquiring m) some others condition mutex e = absurd cc
+frames_same (Reacquiring m taken) some others condition mutex e = absurd cc
 frames_same Ended some others condition mutex e = absurd cc
 
 woken_as : (s : run.State) (t u : ℕ) (frames waiting : List run.Frame) (condition mutex : ℕ) (doing : Doing) → mutex_waiting condition doing ≡ Some mutex
-    → woken_by s t frames condition u (Some (status_with doing waiting)) ≡ Done (did.Signal (Some u)) (run.with_status (run.goes_on s t frames) u (run.Reacquiring mutex waiting))
+    → woken_by s t frames condition u (Some (status_with doing waiting)) ≡ Done (did.Signal (Some u)) (run.with_status (run.goes_on s t frames) u (acquires_again mutex waiting))
 woken_as s t u frames waiting condition mutex (Waiting c m) e = go (c == condition) refl e
   where
     go : (b : Bool) → (c == condition) ≡ b → cond b (Some m) None ≡ Some mutex
-        → cond b (Done (did.Signal (Some u)) (run.with_status (run.goes_on s t frames) u (run.Reacquiring m waiting))) NotEnabled ≡ Done (did.Signal (Some u)) (run.with_status (run.goes_on s t frames) u (run.Reacquiring mutex waiting))
-    go true d f = ap (λ n. Done (did.Signal (Some u)) (run.with_status (run.goes_on s t frames) u (run.Reacquiring n waiting))) (same_Some m mutex f)
+        → cond b (Done (did.Signal (Some u)) (run.with_status (run.goes_on s t frames) u (acquires_again m waiting))) NotEnabled ≡ Done (did.Signal (Some u)) (run.with_status (run.goes_on s t frames) u (acquires_again mutex waiting))
+    go true d f = ap (λ n. Done (did.Signal (Some u)) (run.with_status (run.goes_on s t frames) u (acquires_again n waiting))) (same_Some m mutex f)
     go false d f = absurd cc
 woken_as s t u frames waiting condition mutex NotBegun e = absurd cc
 woken_as s t u frames waiting condition mutex Running e = absurd cc
-woken_as s t u frames waiting condition mutex (Reacquiring m) e = absurd cc
+woken_as s t u frames waiting condition mutex (Reacquiring m taken) e = absurd cc
 woken_as s t u frames waiting condition mutex Ended e = absurd cc
 
 pub not_woken : (s : run.State) (t u : ℕ) (frames waiting : List run.Frame) (condition : ℕ) (doing : Doing) → mutex_waiting condition doing ≡ None
     → woken_by s t frames condition u (Some (status_with doing waiting)) ≡ NotEnabled
 not_woken s t u frames waiting condition (Waiting c m) e = go (c == condition) refl e
   where
-    go : (b : Bool) → (c == condition) ≡ b → cond b (Some m) None ≡ None → cond b (Done (did.Signal (Some u)) (run.with_status (run.goes_on s t frames) u (run.Reacquiring m waiting))) NotEnabled ≡ NotEnabled
+    go : (b : Bool) → (c == condition) ≡ b → cond b (Some m) None ≡ None → cond b (Done (did.Signal (Some u)) (run.with_status (run.goes_on s t frames) u (acquires_again m waiting))) NotEnabled ≡ NotEnabled
     go true d f = absurd cc
     go false d f = refl
 not_woken s t u frames waiting condition NotBegun e = refl
 not_woken s t u frames waiting condition Running e = refl
-not_woken s t u frames waiting condition (Reacquiring m) e = refl
+not_woken s t u frames waiting condition (Reacquiring m taken) e = refl
 not_woken s t u frames waiting condition Ended e = refl
 
 is_waiting : (condition mutex : ℕ) (doing : Doing) → mutex_waiting condition doing ≡ Some mutex → (c : ℕ) × (m : ℕ) × (doing ≡ Waiting c m)
 is_waiting condition mutex (Waiting c m) e = (c, m, refl)
 is_waiting condition mutex NotBegun e = absurd cc
 is_waiting condition mutex Running e = absurd cc
-is_waiting condition mutex (Reacquiring m) e = absurd cc
+is_waiting condition mutex (Reacquiring m taken) e = absurd cc
 is_waiting condition mutex Ended e = absurd cc
 
 -- a thread that runs isn't the one that waits
@@ -102,7 +102,7 @@ other_thread threads t u condition mutex running waiting at runs there waits sam
 pub woken_after : (p : Program) (old mid new : State) (t u : ℕ) (frames : List run.Frame) (condition mutex : ℕ) (running waiting : Thread)
     → slice_get old.threads.items t ≡ Some running → running.doing ≡ Running → slice_get old.threads.items u ≡ Some waiting → mutex_waiting condition waiting.doing ≡ Some mutex
     → state_of p mid ≡ run.goes_on (state_of p old) t frames
-    → ((x : Thread) → slice_get mid.threads.items u ≡ Some x → state_of p new ≡ run.with_status (state_of p mid) u (run.Reacquiring mutex (frames_in p mid.tables x.frames.items)))
+    → ((x : Thread) → slice_get mid.threads.items u ≡ Some x → state_of p new ≡ run.with_status (state_of p mid) u (acquires_again mutex (frames_in p mid.tables x.frames.items)))
     → woken_by (state_of p old) t frames condition u (slice_get (state_of p old).threads u) ≡ Done (did.Signal (Some u)) (state_of p new)
 woken_after p old mid new t u frames condition mutex running waiting at runs there waits goes turns =
     let status = status_of p old.tables waiting in
@@ -116,7 +116,7 @@ woken_after p old mid new t u frames condition mutex running waiting at runs the
     ap (woken_by (state_of p old) t frames condition u) before
     ∙ woken_as (state_of p old) t u frames own condition mutex waiting.doing waits
     ∙ ap (Done (did.Signal (Some u)))
-    (sym (turns found.0 found.1 ∙ ap (λ fs. run.with_status (state_of p mid) u (run.Reacquiring mutex fs)) same ∙ ap (λ s. run.with_status s u (run.Reacquiring mutex own)) goes))
+    (sym (turns found.0 found.1 ∙ ap (λ fs. run.with_status (state_of p mid) u (acquires_again mutex fs)) same ∙ ap (λ s. run.with_status s u (acquires_again mutex own)) goes))
 
 -- a thread is waited for until it has ended
 pub joined_where_ended : (s : run.State) (t u : ℕ) (frames own : List run.Frame) (doing : Doing) → has_ended doing ≡ true → joined_to s t frames u (Some (status_with doing own)) ≡ Done (did.Join u) (run.goes_on s t frames)
@@ -124,14 +124,14 @@ joined_where_ended s t u frames own Ended e = refl
 joined_where_ended s t u frames own NotBegun e = absurd (false≢true e)
 joined_where_ended s t u frames own Running e = absurd (false≢true e)
 joined_where_ended s t u frames own (Waiting c mutex) e = absurd (false≢true e)
-joined_where_ended s t u frames own (Reacquiring mutex) e = absurd (false≢true e)
+joined_where_ended s t u frames own (Reacquiring mutex taken) e = absurd (false≢true e)
 
 pub joined_before : (s : run.State) (t u : ℕ) (frames own : List run.Frame) (doing : Doing) → has_ended doing ≡ false → joined_to s t frames u (Some (status_with doing own)) ≡ NotEnabled
 joined_before s t u frames own Ended e = absurd (false≢true (sym e))
 joined_before s t u frames own NotBegun e = refl
 joined_before s t u frames own Running e = refl
 joined_before s t u frames own (Waiting c mutex) e = refl
-joined_before s t u frames own (Reacquiring mutex) e = refl
+joined_before s t u frames own (Reacquiring mutex taken) e = refl
 
 -- the status of a thread that does this
 pub status_there : (p : Program) (s : State) (u : ℕ) (doing : Doing) → option_map (λ thread. thread.doing) (slice_get s.threads.items u) ≡ Some doing

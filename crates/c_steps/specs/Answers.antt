@@ -1,8 +1,11 @@
 -- What an answer says.
 use Rattle.std.specs.Prelude.{◌≡◌, Bool, true}
+use Rattle.c_tree.specs.declared.program.Program.{Program}
 use Rattle.c_meaning.specs.State as run
 use Rattle.c_meaning.specs.Outcome as outcome
 use Rattle.c_meaning.specs.Outcome.{Outcome}
+use Rattle.c_steps.specs.Model.{state_of}
+use Rattle.c_steps.specs.declared.state.State.{State}
 use Rattle.c_steps.specs.declared.state.Stepped.{Stepped}
 use Rattle.c_steps.specs.declared.state.Stepped.TheVariants.{Done, NotEnabled, Undefined, Memory}
 
@@ -13,3 +16,7 @@ Answers asks came (Done did) old new = came ≡ outcome.Done did new
 Answers asks came NotEnabled old new = (came ≡ outcome.NotEnabled) × (new ≡ old)
 Answers asks came Undefined old new = (came ≡ outcome.Undefined) × (new ≡ old)
 Answers asks came Memory old new = (asks ≡ true) × (new ≡ old)
+
+-- the same, where the code changed one state to another
+abbrev pub Steps : Program → State → State → Stepped → Bool → Outcome → Type 0
+Steps p old new answer asks came = Answers asks came answer (state_of p old) (state_of p new)

@@ -29,7 +29,7 @@ abbrev pub asks_of : Option Status → Bool
 asks_of (Some (Running frames)) = asks_in frames
 asks_of (Some NotBegun) = false
 asks_of (Some (Waiting condition mutex frames)) = false
-asks_of (Some (Reacquiring mutex frames)) = false
+asks_of (Some (Reacquiring mutex takes frames)) = false
 asks_of (Some Ended) = false
 asks_of None = false
 

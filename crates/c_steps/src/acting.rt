@@ -5,7 +5,7 @@ ghost use Rattle.c_tree.specs.Expressions.{expr_of, place_of};
 ghost use Rattle.c_meaning.specs.Numbers.{HasSmallNumbers};
 ghost use Rattle.c_frames.specs.Positions.{first_of};
 ghost use Rattle.c_meaning.specs.Shown.{shown_stmt};
-ghost use Rattle.c_steps.specs.Answers.{Answers};
+ghost use Rattle.c_steps.specs.Answers.{Steps};
 ghost use Rattle.c_steps.specs.Asking.{asks_at};
 ghost use Rattle.state_parts.specs.First.{OfEach};
 ghost use Rattle.c_steps.specs.Kept.{IsStateOf};
@@ -24,7 +24,7 @@ impl State {
         requires state { IsStateOf p.now self.old }
         requires small { HasSmallNumbers (expr_of arg.now) }
         ensures is { (at : At p.now self.old t (bare.Create (place_of slot.now) name.now (expr_of arg.now)))
-            → Answers true (does p.now self.old t (bare.Create (place_of slot.now) name.now (expr_of arg.now)) at) result (state_of p.now self.old) (state_of p.now self.new) }
+            → Steps p.now self.old self.new result true (does p.now self.old t (bare.Create (place_of slot.now) name.now (expr_of arg.now)) at) }
         ensures kept { IsStateOf p.now self.new }
     {
         let alloc = *self.threads.allocator();
@@ -37,7 +37,7 @@ impl State {
         requires small { OfEach IsSmall (shown_stmt s.now) }
         requires may { OfEach (MaySets self.old t) (shown_stmt s.now) }
         ensures is { (at : At p.now self.old t (first_of begun (shown_stmt s.now)))
-            → Answers (asks_at (first_of begun (shown_stmt s.now))) (does p.now self.old t (first_of begun (shown_stmt s.now)) at) result (state_of p.now self.old) (state_of p.now self.new) }
+            → Steps p.now self.old self.new result (asks_at (first_of begun (shown_stmt s.now))) (does p.now self.old t (first_of begun (shown_stmt s.now)) at) }
         ensures kept { At p.now self.old t (first_of begun (shown_stmt s.now)) → IsStateOf p.now self.new }
     {
         match &s.act {
@@ -59,8 +59,9 @@ impl State {
             Act::InitMutex { place } => self.init_mutex(p, t, place),
             Act::InitCond { place } => self.init_condition(p, t, place),
             Act::Lock { place } => self.lock(p, t, place),
+            Act::TryLock { place, .. } => self.try_lock(p, t, place),
             Act::Unlock { place } => self.unlock(p, t, place),
-            Act::Wait { cond, mutex } => self.wait(p, t, cond, mutex),
+            Act::Wait { cond, mutex, .. } => self.wait(p, t, cond, mutex),
             Act::Signal { cond } => self.signal(p, t, cond),
             Act::Broadcast { cond } => self.broadcast(p, t, cond),
             Act::Take { monitor } => self.take(p, t, *monitor),

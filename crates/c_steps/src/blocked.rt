@@ -1,14 +1,15 @@
 // Threads that block each other.
-ghost use Rattle.std.specs.Prelude.{◌≡◌, ◌<◌, ◌-◌, [], if◌then◌else◌, nat_lt, nat_le, sum, map, unwrap_or, option_map, slice_get, Some, None};
+ghost use Rattle.std.specs.Prelude.{◌≡◌, ◌<◌, ◌-◌, [], if◌then◌else◌, nat_lt, nat_le, sum, map, drop, unwrap_or, slice_get, Some, None};
 ghost use Rattle.c_tree.specs.Expressions.{place_of};
-ghost use Rattle.c_tree.specs.Numbering.{mutex_count, monitor_resource};
+ghost use Rattle.c_tree.specs.Numbering.{mutex_count};
 ghost use Rattle.c_meaning.specs.Shown.{shown, shown_stmt};
 ghost use Rattle.c_tree.specs.Bare as bare;
 ghost use Rattle.c_tree.specs.Bare.{Program as Bare};
 ghost use Rattle.c_places.specs.Numbers.{AreNumbersOf};
 ghost use Rattle.c_meaning.specs.Places.{mutex_at};
 ghost use Rattle.c_meaning.specs.Laws.{blocked_for};
-ghost use Rattle.c_meaning.specs.Stuck.{acquired_in, wanted, is_owned, is_taken, is_holder};
+ghost use Rattle.c_meaning.specs.Waits.{takes_of};
+ghost use Rattle.c_meaning.specs.Stuck.{monitor_at, acquired_in, needed_again, wanted, is_owned, is_taken, is_holder};
 ghost use Rattle.state_parts.specs.declared.threads.Thread as thread;
 ghost use Rattle.state_parts.specs.declared.threads.Doing.TheVariants as doing;
 ghost use Rattle.state_parts.specs.Threads.{frames_in};
@@ -114,7 +115,7 @@ impl State {
     fn taken(&self, p: &Program, monitor: u32) -> Option<u32>
         requires accepted { Accepted p.now }
         requires state { IsStateOf p.now self.now }
-        ensures { result ≡ option_map (λ capacity. monitor_resource (shown p.now) monitor) (slice_get p.now.monitors monitor) }
+        ensures { result ≡ monitor_at (shown p.now) monitor }
     {
         let _capacity = capacity(p, monitor)?;
         Some(self.tables.numbers.mutexes() as u32 + monitor)
@@ -149,6 +150,19 @@ impl State {
         }
     }
 
+    /// The resource that a woken thread acquires first: a token that it still takes, or else its mutex.
+    fn needed_again(&self, p: &Program, t: u32, mutex: u32, taken: usize) -> Option<u32>
+        requires accepted { Accepted p.now }
+        requires state { IsStateOf p.now self.now }
+        ensures { (thread : thread.Thread) → slice_get self.now.threads.items t ≡ Some thread
+            → result ≡ needed_again (shown p.now) mutex (drop taken (takes_of (frames_in p.now self.now.tables thread.frames.items))) }
+    {
+        match self.next_take(p, t, taken) {
+            Some(monitor) => self.taken(p, monitor),
+            None => Some(mutex),
+        }
+    }
+
     /// The resource that a thread's next act locks, takes or acquires again.
     fn wanted(&self, p: &Program, t: u32) -> Option<u32>
         requires accepted { Accepted p.now }
@@ -157,7 +171,7 @@ impl State {
     {
         match self.doing(t as usize)? {
             Doing::Running => self.acquired(p, t),
-            Doing::Reacquiring { mutex } => Some(mutex),
+            Doing::Reacquiring { mutex, taken } => self.needed_again(p, t, mutex, taken),
             Doing::NotBegun => None,
             Doing::Waiting { .. } => None,
             Doing::Ended => None,

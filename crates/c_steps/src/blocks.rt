@@ -1,7 +1,7 @@
 // The largest stuck set of a state.
-ghost use Rattle.std.specs.Prelude.{◌≡◌, ◌≢◌, ◌<◌, ℕ, Bool, true};
+ghost use Rattle.std.specs.Prelude.{◌≡◌, ◌≢◌, ◌<◌, ℕ, Bool, true, IsTrue};
 ghost use Rattle.c_meaning.specs.Shown.{shown};
-ghost use Rattle.c_meaning.specs.Closed.{has, LiesIn};
+ghost use Rattle.c_meaning.specs.Closed.{has};
 ghost use Rattle.c_meaning.specs.Stuck.{is_holder, IsStuck};
 ghost use Rattle.c_steps.specs.Model.{state_of};
 ghost use Rattle.c_steps.specs.Kept.{IsStateOf};
@@ -88,7 +88,7 @@ impl State {
     }
 
     /// The threads of the largest stuck set, as the bits of a number: thread `t` is the bit of value 2 to the power of
-    /// `t`. It is 0 exactly where no set is stuck.
+    /// `t`. It is 0 exactly where no set is stuck, and each thread of any stuck set is in it.
     ///
     /// A set of threads is stuck where it has a thread, each of its threads is blocked for a resource, and all tokens of
     /// that resource are held inside the set. It takes no memory.
@@ -97,7 +97,7 @@ impl State {
         requires state { IsStateOf p.now self.now }
         ensures none { result ≡ 0 → (threads : ℕ → Bool) → IsStuck (shown p.now) (state_of p.now self.now) threads → ⊥ }
         ensures stuck { result ≢ 0 → IsStuck (shown p.now) (state_of p.now self.now) (has result) }
-        ensures each { (threads : ℕ → Bool) → IsStuck (shown p.now) (state_of p.now self.now) threads → LiesIn threads result }
+        ensures each { (threads : ℕ → Bool) → IsStuck (shown p.now) (state_of p.now self.now) threads → (t : ℕ) → IsTrue (threads t) → IsTrue (has result t) }
     {
         stuck_sets_are_closed();
         largest(&self.blocking(p))

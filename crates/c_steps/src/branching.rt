@@ -8,12 +8,12 @@ ghost use Rattle.c_meaning.specs.Numbers.{HasSmallNumbers};
 ghost use Rattle.c_tree.specs.Expressions as tree;
 ghost use Rattle.c_meaning.specs.Branching.{for_begun};
 ghost use Rattle.c_meaning.specs.Shown.{shown, shown_body, shown_stmt};
-ghost use Rattle.c_frames.specs.Everywhere.{Everywhere};
+ghost use Rattle.c_tree.specs.Everywhere.{Everywhere};
 ghost use Rattle.state_parts.specs.Small.{IsSmall};
 ghost use Rattle.c_steps.specs.Setting.{MaySets};
 ghost use Rattle.state_parts.specs.Onward.{onward};
 ghost use Rattle.c_frames.specs.Positions.{first_of};
-ghost use Rattle.c_steps.specs.Answers.{Answers};
+ghost use Rattle.c_steps.specs.Answers.{Steps};
 ghost use Rattle.c_steps.specs.Model.{state_of};
 ghost use Rattle.c_steps.specs.Kept.{IsStateOf};
 ghost use Rattle.c_steps.specs.Standing.{At, does};
@@ -37,7 +37,7 @@ impl State {
         requires state { IsStateOf p.now self.old }
         requires small { HasSmallNumbers (expr_of test.now) }
         ensures is { (then_arm else_arm : bare.Stmts) (at : At p.now self.old t (bare.If (expr_of test.now) then_arm else_arm))
-            → Answers false (does p.now self.old t (bare.If (expr_of test.now) then_arm else_arm) at) result (state_of p.now self.old) (state_of p.now self.new) }
+            → Steps p.now self.old self.new result false (does p.now self.old t (bare.If (expr_of test.now) then_arm else_arm) at) }
         ensures kept { IsStateOf p.now self.new }
     {
         let Some(z) = self.evaluated(p, t, test) else {
@@ -56,7 +56,7 @@ impl State {
         requires state { IsStateOf p.now self.old }
         requires small { HasSmallNumbers (expr_of test.now) }
         ensures is { (body : bare.Stmts) (at : At p.now self.old t (bare.While (expr_of test.now) body))
-            → Answers false (does p.now self.old t (bare.While (expr_of test.now) body) at) result (state_of p.now self.old) (state_of p.now self.new) }
+            → Steps p.now self.old self.new result false (does p.now self.old t (bare.While (expr_of test.now) body) at) }
         ensures kept { IsStateOf p.now self.new }
     {
         let Some(z) = self.evaluated(p, t, test) else {
@@ -76,7 +76,7 @@ impl State {
         requires small { Everywhere IsSmall (shown_body first.now) }
         requires may { Everywhere (MaySets self.old t) (shown_body first.now) }
         ensures is { (test : tree.Expr) (step body : bare.Stmts) (at : At p.now self.old t (bare.For (shown_body first.now) test step body))
-            → Answers false (does p.now self.old t (bare.For (shown_body first.now) test step body) at) result (state_of p.now self.old) (state_of p.now self.new) }
+            → Steps p.now self.old self.new result false (does p.now self.old t (bare.For (shown_body first.now) test step body) at) }
         ensures kept { IsStateOf p.now self.new }
     {
         match first.as_slice() {
@@ -95,7 +95,7 @@ impl State {
         requires small { IsSmall (shown_stmt s.now) }
         requires may { MaySets self.old t (shown_stmt s.now) }
         ensures is { (act : bare.Stmt) (at : At p.now self.old t act)
-            → Answers false (for_begun (shown p.now) (state_of p.now self.old) t at.locals (onward Onward.Loop act at.rest) at.more (Cons (shown_stmt s.now) Nil)) result (state_of p.now self.old) (state_of p.now self.new) }
+            → Steps p.now self.old self.new result false (for_begun (shown p.now) (state_of p.now self.old) t at.locals (onward Onward.Loop act at.rest) at.more (Cons (shown_stmt s.now) Nil)) }
         ensures kept { IsStateOf p.now self.new }
     {
         match &s.act {
@@ -119,7 +119,7 @@ impl State {
         requires small { Everywhere IsSmall (shown_body first.now) }
         requires may { Everywhere (MaySets self.old t) (shown_body first.now) }
         ensures is { (step body : bare.Stmts) (at : At p.now self.old t (first_of begun (bare.For (shown_body first.now) (expr_of test.now) step body)))
-            → Answers false (does p.now self.old t (first_of begun (bare.For (shown_body first.now) (expr_of test.now) step body)) at) result (state_of p.now self.old) (state_of p.now self.new) }
+            → Steps p.now self.old self.new result false (does p.now self.old t (first_of begun (bare.For (shown_body first.now) (expr_of test.now) step body)) at) }
         ensures kept { IsStateOf p.now self.new }
     {
         if begun {

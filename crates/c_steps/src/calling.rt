@@ -12,7 +12,7 @@ ghost use Rattle.c_tree.specs.declared.program.Program as tree;
 ghost use Rattle.state_parts.specs.Threads.{frame_in};
 ghost use Rattle.state_parts.specs.Valid.{IsFrameIn};
 ghost use Rattle.c_steps.specs.Running.{Runs};
-ghost use Rattle.c_steps.specs.Answers.{Answers};
+ghost use Rattle.c_steps.specs.Answers.{Steps};
 ghost use Rattle.c_steps.specs.Model.{state_of};
 ghost use Rattle.c_steps.specs.Kept.{IsStateOf};
 ghost use Rattle.c_steps.specs.Standing.{At, does};
@@ -64,7 +64,7 @@ impl State {
         requires state { IsStateOf p.now self.old }
         requires small { HaveSmallNumbers (exprs_of args.now) }
         ensures is { (target : option.Option Place) (at : At p.now self.old t (bare.Call target function.now (exprs_of args.now)))
-            → Answers true (does p.now self.old t (bare.Call target function.now (exprs_of args.now)) at) result (state_of p.now self.old) (state_of p.now self.new) }
+            → Steps p.now self.old self.new result true (does p.now self.old t (bare.Call target function.now (exprs_of args.now)) at) }
         ensures kept { IsStateOf p.now self.new }
     {
         let alloc = *self.threads.allocator();
@@ -97,7 +97,7 @@ impl State {
         requires state { IsStateOf p.now self.old }
         requires small { HaveSmallNumbers (exprs_of args.now) }
         ensures is { (at : At p.now self.old t (bare.Print format.now (exprs_of args.now)))
-            → Answers true (does p.now self.old t (bare.Print format.now (exprs_of args.now)) at) result (state_of p.now self.old) (state_of p.now self.new) }
+            → Steps p.now self.old self.new result true (does p.now self.old t (bare.Print format.now (exprs_of args.now)) at) }
         ensures kept { IsStateOf p.now self.new }
     {
         let alloc = *self.threads.allocator();

@@ -12,7 +12,7 @@ ghost use Rattle.c_meaning.specs.Threads.{first_frame, created, joined};
 ghost use Rattle.c_meaning.specs.Numbers.{HasSmallNumbers};
 ghost use Rattle.state_parts.specs.Threads.{frames_in};
 ghost use Rattle.c_steps.specs.Model.{state_of};
-ghost use Rattle.c_steps.specs.Answers.{Answers};
+ghost use Rattle.c_steps.specs.Answers.{Steps};
 ghost use Rattle.state_parts.specs.Valid.{AreFramesIn};
 ghost use Rattle.c_steps.specs.Kept.{IsStateOf};
 ghost use Rattle.c_steps.specs.Standing.{At, does};
@@ -63,8 +63,7 @@ impl State {
         requires state { IsStateOf p.now self.old }
         requires small { HasSmallNumbers (expr_of arg.now) }
         ensures is { (act : bare.Stmt) (at : At p.now self.old t act)
-            → Answers true (created (state_of p.now self.old) t (frame at.locals at.rest ∷ at.more) (Some u) (first_frame (function_named (shown p.now) name.now) (values.constant (expr_of arg.now))))
-            result (state_of p.now self.old) (state_of p.now self.new) }
+            → Steps p.now self.old self.new result true (created (state_of p.now self.old) t (frame at.locals at.rest ∷ at.more) (Some u) (first_frame (function_named (shown p.now) name.now) (values.constant (expr_of arg.now)))) }
         ensures kept { IsStateOf p.now self.new }
     {
         let Some(Doing::NotBegun) = self.doing(u) else {
@@ -94,7 +93,7 @@ impl State {
         requires state { IsStateOf p.now self.old }
         requires small { HasSmallNumbers (expr_of arg.now) }
         ensures is { (at : At p.now self.old t (bare.Create (place_of slot.now) name.now (expr_of arg.now)))
-            → Answers true (does p.now self.old t (bare.Create (place_of slot.now) name.now (expr_of arg.now)) at) result (state_of p.now self.old) (state_of p.now self.new) }
+            → Steps p.now self.old self.new result true (does p.now self.old t (bare.Create (place_of slot.now) name.now (expr_of arg.now)) at) }
         ensures kept { IsStateOf p.now self.new }
     {
         match self.thread_in(p, slot) {
@@ -107,7 +106,7 @@ impl State {
     fn join_thread(&mut self, p: &Program, t: u32, u: usize) -> Stepped
         requires { IsStateOf p.now self.old }
         ensures is { (act : bare.Stmt) (at : At p.now self.old t act)
-            → Answers false (joined (state_of p.now self.old) t (frame at.locals at.rest ∷ at.more) (Some u)) result (state_of p.now self.old) (state_of p.now self.new) }
+            → Steps p.now self.old self.new result false (joined (state_of p.now self.old) t (frame at.locals at.rest ∷ at.more) (Some u)) }
         ensures kept { IsStateOf p.now self.new }
     {
         let Some(doing) = self.doing(u) else {
@@ -124,7 +123,7 @@ impl State {
     pub(crate) fn join(&mut self, p: &Program, t: u32, slot: &Place) -> Stepped
         requires { IsStateOf p.now self.old }
         ensures is { (at : At p.now self.old t (bare.Join (place_of slot.now)))
-            → Answers false (does p.now self.old t (bare.Join (place_of slot.now)) at) result (state_of p.now self.old) (state_of p.now self.new) }
+            → Steps p.now self.old self.new result false (does p.now self.old t (bare.Join (place_of slot.now)) at) }
         ensures kept { IsStateOf p.now self.new }
     {
         match self.thread_in(p, slot) {

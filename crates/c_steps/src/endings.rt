@@ -14,7 +14,7 @@ ghost use Rattle.c_steps.specs.Setting.{MaySet};
 ghost use Rattle.c_frames.specs.Names.{target};
 ghost use Rattle.c_frames.specs.Positions.{first_of};
 ghost use Rattle.c_steps.specs.Standing.{At, does};
-ghost use Rattle.c_steps.specs.Answers.{Answers};
+ghost use Rattle.c_steps.specs.Answers.{Steps};
 ghost use Rattle.c_steps.specs.Model.{state_of};
 ghost use Rattle.c_steps.specs.Kept.{IsStateOf};
 ghost use Rattle.c_steps.specs.Running.{Runs, MaySetBelow};
@@ -75,7 +75,7 @@ impl State {
         requires small { IsSmallTarget (target_of target.now) }
         requires may { IsPlaceIfAny (λ place. MaySetBelow self.old t place.name) target.now }
         ensures is { (newest : run.Frame) (locals : run.Locals) (call : bare.Stmt) (rest : Stmts) (more : List run.Frame) → Runs p.now self.old t newest (run.frame locals (Cons call rest) ∷ more)
-            → Answers false (result_set (shown p.now) (state_of p.now self.old) t locals rest more (target_of target.now) gives) result (state_of p.now self.old) (state_of p.now self.new) }
+            → Steps p.now self.old self.new result false (result_set (shown p.now) (state_of p.now self.old) t locals rest more (target_of target.now) gives) }
         ensures kept { IsStateOf p.now self.new }
     {
         let Some(place) = target else {
@@ -98,7 +98,7 @@ impl State {
     pub(crate) fn finish(&mut self, p: &Program, t: u32, gives: Option<i32>) -> Stepped
         requires { IsStateOf p.now self.old }
         ensures is { (newest : run.Frame) (more : List run.Frame) → Runs p.now self.old t newest more
-            → Answers false (frame_ended (shown p.now) (state_of p.now self.old) t more gives) result (state_of p.now self.old) (state_of p.now self.new) }
+            → Steps p.now self.old self.new result false (frame_ended (shown p.now) (state_of p.now self.old) t more gives) }
         ensures kept { IsStateOf p.now self.new }
     {
         match self.first(p, t, 1) {
@@ -118,7 +118,7 @@ impl State {
         requires may { IfSome (target (shown_stmt s.now)) (MaySetBelow self.old t) }
         ensures is { (newest : run.Frame) (locals : run.Locals) (begun : Bool) (rest : Stmts) (more : List run.Frame)
             → Runs p.now self.old t newest (run.frame locals (Cons (first_of begun (shown_stmt s.now)) rest) ∷ more)
-            → Answers false (call_ended (shown p.now) (state_of p.now self.old) t locals more gives (Cons (first_of begun (shown_stmt s.now)) rest)) result (state_of p.now self.old) (state_of p.now self.new) }
+            → Steps p.now self.old self.new result false (call_ended (shown p.now) (state_of p.now self.old) t locals more gives (Cons (first_of begun (shown_stmt s.now)) rest)) }
         ensures kept { IsStateOf p.now self.new }
     {
         match &s.act {
@@ -132,7 +132,7 @@ impl State {
         requires state { IsStateOf p.now self.old }
         requires small { IsSmallIfAny (value_of value.now) }
         ensures is { (at : At p.now self.old t (bare.Return (value_of value.now)))
-            → Answers false (does p.now self.old t (bare.Return (value_of value.now)) at) result (state_of p.now self.old) (state_of p.now self.new) }
+            → Steps p.now self.old self.new result false (does p.now self.old t (bare.Return (value_of value.now)) at) }
         ensures kept { IsStateOf p.now self.new }
     {
         match self.evaluated_if_any(p, t, value) {

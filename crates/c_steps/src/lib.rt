@@ -16,6 +16,7 @@ mod sight;
 mod starting;
 mod state;
 mod step;
+mod trying;
 mod waits;
 
 pub use state::{State, Stepped};

@@ -3,14 +3,15 @@ ghost use Rattle.std.specs.Prelude.{◌≡◌, ◌∷◌, ◌<◌, ◌+◌, ℕ,
 ghost use Rattle.c_tree.specs.Bare as bare;
 ghost use Rattle.c_tree.specs.Expressions.{place_of};
 ghost use Rattle.c_tree.specs.declared.program.Program as tree;
-ghost use Rattle.c_meaning.specs.State.{frame, goes_on};
+ghost use Rattle.c_meaning.specs.State.{Running, frame, goes_on};
 ghost use Rattle.c_meaning.specs.Locks.{locked, unlocked, held_by, holding};
 ghost use Rattle.c_meaning.specs.Stuck.{is_owner};
 ghost use Rattle.c_steps.specs.Model.{state_of};
-ghost use Rattle.c_steps.specs.Answers.{Answers};
+ghost use Rattle.c_steps.specs.Answers.{Steps};
 ghost use Rattle.c_steps.specs.Kept.{IsStateOf};
 ghost use Rattle.c_steps.specs.Standing.{At, does};
 ghost use Rattle.state_parts.specs.Small.{IsSmallPlace};
+ghost use Rattle.state_parts.specs.Onward.{onward};
 
 use crate::state::{State, Stepped};
 use c_meaning::Did;
@@ -56,7 +57,7 @@ impl State {
     }
 
     /// A thread holds so many tokens of a monitor.
-    fn set_row(&mut self, monitor: u32, t: u32, held: u32)
+    pub(crate) fn set_row(&mut self, monitor: u32, t: u32, held: u32)
         ensures is { (p : tree.Program) (row : List ℕ) → slice_get (state_of p self.old).tokens monitor ≡ Some row
             → state_of p self.new ≡ record (state_of p self.old) { tokens = slice_set (state_of p self.old).tokens monitor (slice_set row t held) } }
         ensures kept { (p : tree.Program) → IsStateOf p self.old → IsStateOf p self.new }
@@ -66,14 +67,21 @@ impl State {
         }
     }
 
-    /// A thread goes on, and a mutex has another owner, or none.
-    pub(crate) fn go_on_owning(&mut self, p: &Program, t: u32, mutex: usize, owner: Option<u32>)
+    /// A thread goes on from its first statement, and a mutex has another owner, or none.
+    pub(crate) fn go_on_owning(
+        &mut self,
+        p: &Program,
+        t: u32,
+        mutex: usize,
+        owner: Option<u32>,
+        to: Onward,
+    )
         requires { IsStateOf p.now self.old }
         ensures goes { (act : bare.Stmt) (at : At p.now self.old t act)
-            → state_of p.now self.new ≡ record (goes_on (state_of p.now self.old) t (frame at.locals at.rest ∷ at.more)) { owners = slice_set self.old.owners.items mutex owner } }
+            → state_of p.now self.new ≡ record (goes_on (state_of p.now self.old) t (frame at.locals (onward to act at.rest) ∷ at.more)) { owners = slice_set self.old.owners.items mutex owner } }
         ensures kept { (act : bare.Stmt) → At p.now self.old t act → IfSome owner (λ u. u ≡ t) → IsStateOf p.now self.new }
     {
-        self.go_on(p, t, Onward::Past);
+        self.go_on(p, t, to);
         self.set_owner(mutex, owner);
     }
 
@@ -81,7 +89,7 @@ impl State {
     fn go_on_holding(&mut self, p: &Program, t: u32, monitor: u32, held: u32)
         requires { IsStateOf p.now self.old }
         ensures goes { (act : bare.Stmt) (at : At p.now self.old t act) (row : List ℕ) → slice_get (state_of p.now self.old).tokens monitor ≡ Some row
-            → state_of p.now self.new ≡ holding (state_of p.now self.old) t (frame at.locals at.rest ∷ at.more) monitor row held }
+            → state_of p.now self.new ≡ holding (state_of p.now self.old) t (Running (frame at.locals at.rest ∷ at.more)) monitor row held }
         ensures kept { IsStateOf p.now self.new }
     {
         self.go_on(p, t, Onward::Past);
@@ -92,12 +100,12 @@ impl State {
     fn lock_mutex(&mut self, p: &Program, t: u32, mutex: usize) -> Stepped
         requires { IsStateOf p.now self.old }
         ensures is { (act : bare.Stmt) (at : At p.now self.old t act)
-            → Answers false (locked (state_of p.now self.old) t (frame at.locals at.rest ∷ at.more) (Some mutex)) result (state_of p.now self.old) (state_of p.now self.new) }
+            → Steps p.now self.old self.new result false (locked (state_of p.now self.old) t (frame at.locals at.rest ∷ at.more) (Some mutex)) }
         ensures kept { (act : bare.Stmt) → At p.now self.old t act → IsStateOf p.now self.new }
     {
         match self.owner(mutex) {
             Some(None) => {
-                self.go_on_owning(p, t, mutex, Some(t));
+                self.go_on_owning(p, t, mutex, Some(t), Onward::Past);
                 Stepped::Done(Did::Lock(mutex as u32))
             }
             Some(Some(_)) => Stepped::NotEnabled,
@@ -110,7 +118,7 @@ impl State {
         requires state { IsStateOf p.now self.old }
         requires small { IsSmallPlace (place_of place.now) }
         ensures is { (at : At p.now self.old t (bare.Lock (place_of place.now)))
-            → Answers false (does p.now self.old t (bare.Lock (place_of place.now)) at) result (state_of p.now self.old) (state_of p.now self.new) }
+            → Steps p.now self.old self.new result false (does p.now self.old t (bare.Lock (place_of place.now)) at) }
         ensures kept { (act : bare.Stmt) → At p.now self.old t act → IsStateOf p.now self.new }
     {
         match self.mutex_at(p, t, place) {
@@ -123,13 +131,13 @@ impl State {
     fn unlock_mutex(&mut self, p: &Program, t: u32, mutex: usize) -> Stepped
         requires { IsStateOf p.now self.old }
         ensures is { (act : bare.Stmt) (at : At p.now self.old t act)
-            → Answers false (unlocked (state_of p.now self.old) t (frame at.locals at.rest ∷ at.more) (Some mutex)) result (state_of p.now self.old) (state_of p.now self.new) }
+            → Steps p.now self.old self.new result false (unlocked (state_of p.now self.old) t (frame at.locals at.rest ∷ at.more) (Some mutex)) }
         ensures kept { (act : bare.Stmt) → At p.now self.old t act → IsStateOf p.now self.new }
     {
         if !self.is_owner(t, mutex) {
             return Stepped::Undefined;
         }
-        self.go_on_owning(p, t, mutex, None);
+        self.go_on_owning(p, t, mutex, None, Onward::Past);
         Stepped::Done(Did::Unlock(mutex as u32))
     }
 
@@ -138,7 +146,7 @@ impl State {
         requires state { IsStateOf p.now self.old }
         requires small { IsSmallPlace (place_of place.now) }
         ensures is { (at : At p.now self.old t (bare.Unlock (place_of place.now)))
-            → Answers false (does p.now self.old t (bare.Unlock (place_of place.now)) at) result (state_of p.now self.old) (state_of p.now self.new) }
+            → Steps p.now self.old self.new result false (does p.now self.old t (bare.Unlock (place_of place.now)) at) }
         ensures kept { (act : bare.Stmt) → At p.now self.old t act → IsStateOf p.now self.new }
     {
         match self.mutex_at(p, t, place) {
@@ -151,7 +159,7 @@ impl State {
     pub(crate) fn take(&mut self, p: &Program, t: u32, monitor: u32) -> Stepped
         requires { IsStateOf p.now self.old }
         ensures is { (at : At p.now self.old t (bare.Take monitor))
-            → Answers false (does p.now self.old t (bare.Take monitor) at) result (state_of p.now self.old) (state_of p.now self.new) }
+            → Steps p.now self.old self.new result false (does p.now self.old t (bare.Take monitor) at) }
         ensures kept { IsStateOf p.now self.new }
     {
         let Some(capacity) = capacity(p, monitor) else {
@@ -172,7 +180,7 @@ impl State {
     pub(crate) fn give(&mut self, p: &Program, t: u32, monitor: u32) -> Stepped
         requires { IsStateOf p.now self.old }
         ensures is { (at : At p.now self.old t (bare.Give monitor))
-            → Answers false (does p.now self.old t (bare.Give monitor) at) result (state_of p.now self.old) (state_of p.now self.new) }
+            → Steps p.now self.old self.new result false (does p.now self.old t (bare.Give monitor) at) }
         ensures kept { IsStateOf p.now self.new }
     {
         let Some(row) = self.row(monitor) else {
@@ -191,7 +199,7 @@ impl State {
         requires state { IsStateOf p.now self.old }
         requires small { IsSmallPlace (place_of place.now) }
         ensures is { (at : At p.now self.old t (bare.InitMutex (place_of place.now)))
-            → Answers false (does p.now self.old t (bare.InitMutex (place_of place.now)) at) result (state_of p.now self.old) (state_of p.now self.new) }
+            → Steps p.now self.old self.new result false (does p.now self.old t (bare.InitMutex (place_of place.now)) at) }
         ensures kept { IsStateOf p.now self.new }
     {
         match self.mutex_at(p, t, place) {
@@ -208,7 +216,7 @@ impl State {
         requires state { IsStateOf p.now self.old }
         requires small { IsSmallPlace (place_of place.now) }
         ensures is { (at : At p.now self.old t (bare.InitCond (place_of place.now)))
-            → Answers false (does p.now self.old t (bare.InitCond (place_of place.now)) at) result (state_of p.now self.old) (state_of p.now self.new) }
+            → Steps p.now self.old self.new result false (does p.now self.old t (bare.InitCond (place_of place.now)) at) }
         ensures kept { IsStateOf p.now self.new }
     {
         match self.condition_at(p, t, place) {

@@ -7,7 +7,7 @@ ghost use Rattle.c_meaning.specs.Shown.{shown};
 ghost use Rattle.c_meaning.specs.Places.{evaluated, evaluated_if_any, target_at};
 ghost use Rattle.c_meaning.specs.Setting.{declared_local, assigned};
 ghost use Rattle.state_parts.specs.Onward.{onward};
-ghost use Rattle.c_steps.specs.Answers.{Answers};
+ghost use Rattle.c_steps.specs.Answers.{Steps};
 ghost use Rattle.c_steps.specs.Model.{state_of};
 ghost use Rattle.c_steps.specs.Kept.{IsStateOf};
 ghost use Rattle.c_steps.specs.Setting.{MaySet};
@@ -33,9 +33,7 @@ impl State {
         requires small { IsSmallIfAny (value_of value.now) }
         requires may { MaySet self.old t name.now }
         ensures is { (act : bare.Stmt) (at : At p.now self.old t act)
-            → Answers false (declared_local (state_of p.now self.old) t at.locals (onward to act at.rest) at.more name.now
-            (evaluated_if_any (shown p.now) (state_of p.now self.old) at.locals (value_of value.now)))
-            result (state_of p.now self.old) (state_of p.now self.new) }
+            → Steps p.now self.old self.new result false (declared_local (state_of p.now self.old) t at.locals (onward to act at.rest) at.more name.now (evaluated_if_any (shown p.now) (state_of p.now self.old) at.locals (value_of value.now))) }
         ensures kept { IsStateOf p.now self.new }
     {
         let Some(value) = self.evaluated_if_any(p, t, value) else {
@@ -59,9 +57,7 @@ impl State {
         requires small { HasSmallNumbers (expr_of e.now) }
         requires may { MaySet self.old t place.now.name }
         ensures is { (act : bare.Stmt) (at : At p.now self.old t act)
-            → Answers false (assigned (state_of p.now self.old) t at.locals (onward to act at.rest) at.more
-            (target_at (shown p.now) (state_of p.now self.old) at.locals (place_of place.now)) (evaluated (shown p.now) (state_of p.now self.old) at.locals (expr_of e.now)))
-            result (state_of p.now self.old) (state_of p.now self.new) }
+            → Steps p.now self.old self.new result false (assigned (state_of p.now self.old) t at.locals (onward to act at.rest) at.more (target_at (shown p.now) (state_of p.now self.old) at.locals (place_of place.now)) (evaluated (shown p.now) (state_of p.now self.old) at.locals (expr_of e.now))) }
         ensures kept { IsStateOf p.now self.new }
     {
         let Some(target) = self.target_at(p, t, place) else {
@@ -80,7 +76,7 @@ impl State {
         requires small { IsSmallIfAny (value_of place.now.index) }
         requires may { MaySet self.old t place.now.name }
         ensures is { (at : At p.now self.old t (bare.Read (place_of place.now)))
-            → Answers false (does p.now self.old t (bare.Read (place_of place.now)) at) result (state_of p.now self.old) (state_of p.now self.new) }
+            → Steps p.now self.old self.new result false (does p.now self.old t (bare.Read (place_of place.now)) at) }
         ensures kept { IsStateOf p.now self.new }
     {
         let Some(target) = self.target_at(p, t, place) else {

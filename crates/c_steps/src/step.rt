@@ -9,7 +9,7 @@ ghost use Rattle.state_parts.specs.Small.{IsSmall};
 ghost use Rattle.c_steps.specs.Standing.{At};
 ghost use Rattle.state_parts.specs.declared.threads.Thread as thread;
 ghost use Rattle.state_parts.specs.declared.threads.Doing.TheVariants as doing;
-ghost use Rattle.c_steps.specs.Answers.{Answers};
+ghost use Rattle.c_steps.specs.Answers.{Steps};
 ghost use Rattle.c_steps.specs.Asking.{asks, asks_in, asks_of};
 ghost use Rattle.c_steps.specs.Kept.{IsStateOf};
 ghost use Rattle.state_parts.specs.Threads.{frames_in};
@@ -26,7 +26,7 @@ impl State {
     fn run(&mut self, p: &Program, t: u32) -> Stepped
         requires { IsStateOf p.now self.old }
         ensures is { (thread : thread.Thread) → slice_get self.old.threads.items t ≡ Some thread → thread.doing ≡ doing.Running
-            → Answers (asks_in (frames_in p.now self.old.tables thread.frames.items)) (went (shown p.now) (state_of p.now self.old) t (frames_in p.now self.old.tables thread.frames.items)) result (state_of p.now self.old) (state_of p.now self.new) }
+            → Steps p.now self.old self.new result (asks_in (frames_in p.now self.old.tables thread.frames.items)) (went (shown p.now) (state_of p.now self.old) t (frames_in p.now self.old.tables thread.frames.items)) }
         ensures kept { (thread : thread.Thread) → slice_get self.old.threads.items t ≡ Some thread → thread.doing ≡ doing.Running → IsStateOf p.now self.new }
     {
         match self.first(p, t, 0) {
@@ -36,15 +36,15 @@ impl State {
         }
     }
 
-    /// Go: a running thread does its first statement, and a woken one acquires its mutex again.
+    /// Go: a running thread does its first statement, and a woken one takes a token of its wait, or else its mutex.
     fn go(&mut self, p: &Program, t: u32) -> Stepped
         requires { IsStateOf p.now self.old }
-        ensures is { Answers (asks_of (slice_get (state_of p.now self.old).threads t)) (gone (shown p.now) (state_of p.now self.old) t (slice_get (state_of p.now self.old).threads t)) result (state_of p.now self.old) (state_of p.now self.new) }
+        ensures is { Steps p.now self.old self.new result (asks_of (slice_get (state_of p.now self.old).threads t)) (gone (shown p.now) (state_of p.now self.old) t (slice_get (state_of p.now self.old).threads t)) }
         ensures kept { IsStateOf p.now self.new }
     {
         match self.doing(t as usize) {
             Some(Doing::Running) => self.run(p, t),
-            Some(Doing::Reacquiring { mutex }) => self.retake(p, t, mutex),
+            Some(Doing::Reacquiring { mutex, taken }) => self.acquire_again(p, t, mutex, taken),
             _ => Stepped::NotEnabled,
         }
     }
@@ -52,7 +52,7 @@ impl State {
     /// Choose: a running thread whose first statement is a signal wakes u by it.
     fn choose_to_wake(&mut self, p: &Program, t: u32, u: u32) -> Stepped
         requires { IsStateOf p.now self.old }
-        ensures is { Answers false (chosen (shown p.now) (state_of p.now self.old) t u (slice_get (state_of p.now self.old).threads t)) result (state_of p.now self.old) (state_of p.now self.new) }
+        ensures is { Steps p.now self.old self.new result false (chosen (shown p.now) (state_of p.now self.old) t u (slice_get (state_of p.now self.old).threads t)) }
         ensures kept { IsStateOf p.now self.new }
     {
         match self.doing(t as usize) {
@@ -65,7 +65,7 @@ impl State {
     fn signal_to(&mut self, p: &Program, t: u32, u: u32) -> Stepped
         requires { IsStateOf p.now self.old }
         ensures is { (thread : thread.Thread) → slice_get self.old.threads.items t ≡ Some thread → thread.doing ≡ doing.Running
-            → Answers false (chose (shown p.now) (state_of p.now self.old) t u (frames_in p.now self.old.tables thread.frames.items)) result (state_of p.now self.old) (state_of p.now self.new) }
+            → Steps p.now self.old self.new result false (chose (shown p.now) (state_of p.now self.old) t u (frames_in p.now self.old.tables thread.frames.items)) }
         ensures kept { IsStateOf p.now self.new }
     {
         match self.first(p, t, 0) {
@@ -80,7 +80,7 @@ impl State {
         requires state { IsStateOf p.now self.old }
         requires small { IsSmall (shown_stmt s.now) }
         ensures is { (begun : Bool) (at : At p.now self.old t (first_of begun (shown_stmt s.now)))
-            → Answers false (chose_on (shown p.now) (state_of p.now self.old) t at.locals at.more u (Cons (first_of begun (shown_stmt s.now)) at.rest)) result (state_of p.now self.old) (state_of p.now self.new) }
+            → Steps p.now self.old self.new result false (chose_on (shown p.now) (state_of p.now self.old) t at.locals at.more u (Cons (first_of begun (shown_stmt s.now)) at.rest)) }
         ensures kept { IsStateOf p.now self.new }
     {
         match &s.act {
@@ -100,7 +100,7 @@ impl State {
     /// before.
     pub fn step(&mut self, p: &Program, e: Event) -> Stepped
         requires { IsStateOf p.now self.old }
-        ensures is { Answers (asks (state_of p.now self.old) e) (step (shown p.now) (state_of p.now self.old) e) result (state_of p.now self.old) (state_of p.now self.new) }
+        ensures is { Steps p.now self.old self.new result (asks (state_of p.now self.old) e) (step (shown p.now) (state_of p.now self.old) e) }
         ensures kept { IsStateOf p.now self.new }
     {
         if self.main_ended {

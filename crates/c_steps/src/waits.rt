@@ -1,5 +1,5 @@
 // Conditions: wait, signal and broadcast, and how a waiting thread goes on.
-ghost use Rattle.std.specs.Prelude.{◌≡◌, ◌∷◌, if◌then◌else◌, Some, None, slice_get, option_map, false};
+ghost use Rattle.std.specs.Prelude.{◌≡◌, ℕ, List, ◌∷◌, if◌then◌else◌, Some, None, slice_get, option_map, false};
 ghost use Rattle.std.specs.List.{list_any};
 ghost use Rattle.c_tree.specs.Bare as bare;
 ghost use Rattle.c_tree.specs.Expressions.{place_of};
@@ -10,7 +10,7 @@ ghost use Rattle.c_meaning.specs.Places.{condition_at};
 ghost use Rattle.c_meaning.specs.Step.{awoken};
 ghost use Rattle.c_meaning.specs.Waits.{waited, waits_on, all_awakened, signalled_to};
 ghost use Rattle.c_steps.specs.Model.{state_of};
-ghost use Rattle.c_steps.specs.Answers.{Answers};
+ghost use Rattle.c_steps.specs.Answers.{Steps};
 ghost use Rattle.c_steps.specs.Kept.{IsStateOf};
 ghost use Rattle.c_steps.specs.Standing.{At, does};
 ghost use Rattle.state_parts.specs.Small.{IsSmallPlace};
@@ -44,7 +44,7 @@ impl State {
         false
     }
 
-    /// All threads that wait on a condition acquire their mutexes again.
+    /// All threads that wait on a condition are woken.
     fn awaken(&mut self, condition: u128)
         ensures is { (p : tree.Program) → state_of p self.new ≡ all_awakened condition (state_of p self.old) }
         ensures kept { (p : tree.Program) → IsStateOf p self.old → IsStateOf p self.new }
@@ -56,7 +56,7 @@ impl State {
     fn wait_on(&mut self, p: &Program, t: u32, condition: u128, mutex: usize) -> Stepped
         requires { IsStateOf p.now self.old }
         ensures is { (act : bare.Stmt) (at : At p.now self.old t act)
-            → Answers false (waited (state_of p.now self.old) t (frame at.locals (bare.Cons act at.rest) ∷ at.more) (Some condition) (Some mutex)) result (state_of p.now self.old) (state_of p.now self.new) }
+            → Steps p.now self.old self.new result false (waited (state_of p.now self.old) t (frame at.locals (bare.Cons act at.rest) ∷ at.more) (Some condition) (Some mutex)) }
         ensures kept { IsStateOf p.now self.new }
     {
         if !self.is_owner(t, mutex) {
@@ -78,8 +78,8 @@ impl State {
         requires state { IsStateOf p.now self.old }
         requires cond { IsSmallPlace (place_of cond.now) }
         requires mutex { IsSmallPlace (place_of mutex.now) }
-        ensures is { (at : At p.now self.old t (bare.Wait (place_of cond.now) (place_of mutex.now)))
-            → Answers false (does p.now self.old t (bare.Wait (place_of cond.now) (place_of mutex.now)) at) result (state_of p.now self.old) (state_of p.now self.new) }
+        ensures is { (takes : List ℕ) (at : At p.now self.old t (bare.Wait (place_of cond.now) (place_of mutex.now) takes))
+            → Steps p.now self.old self.new result false (does p.now self.old t (bare.Wait (place_of cond.now) (place_of mutex.now) takes) at) }
         ensures kept { IsStateOf p.now self.new }
     {
         let Some(condition) = self.condition_at(p, t, cond) else {
@@ -96,7 +96,7 @@ impl State {
         requires state { IsStateOf p.now self.old }
         requires small { IsSmallPlace (place_of cond.now) }
         ensures is { (at : At p.now self.old t (bare.Signal (place_of cond.now)))
-            → Answers false (does p.now self.old t (bare.Signal (place_of cond.now)) at) result (state_of p.now self.old) (state_of p.now self.new) }
+            → Steps p.now self.old self.new result false (does p.now self.old t (bare.Signal (place_of cond.now)) at) }
         ensures kept { IsStateOf p.now self.new }
     {
         let Some(condition) = self.condition_at(p, t, cond) else {
@@ -114,7 +114,7 @@ impl State {
         requires state { IsStateOf p.now self.old }
         requires small { IsSmallPlace (place_of cond.now) }
         ensures is { (at : At p.now self.old t (bare.Broadcast (place_of cond.now)))
-            → Answers false (does p.now self.old t (bare.Broadcast (place_of cond.now)) at) result (state_of p.now self.old) (state_of p.now self.new) }
+            → Steps p.now self.old self.new result false (does p.now self.old t (bare.Broadcast (place_of cond.now)) at) }
         ensures kept { IsStateOf p.now self.new }
     {
         let Some(condition) = self.condition_at(p, t, cond) else {
@@ -129,7 +129,7 @@ impl State {
     fn wake_by(&mut self, p: &Program, t: u32, u: u32, condition: u128) -> Stepped
         requires { IsStateOf p.now self.old }
         ensures is { (act : bare.Stmt) (at : At p.now self.old t act)
-            → Answers false (signalled_to (state_of p.now self.old) t (frame at.locals at.rest ∷ at.more) u (Some condition)) result (state_of p.now self.old) (state_of p.now self.new) }
+            → Steps p.now self.old self.new result false (signalled_to (state_of p.now self.old) t (frame at.locals at.rest ∷ at.more) u (Some condition)) }
         ensures kept { IsStateOf p.now self.new }
     {
         let Some(doing) = self.doing(u as usize) else {
@@ -138,7 +138,7 @@ impl State {
         match mutex_waiting(doing, condition) {
             Some(mutex) => {
                 self.go_on(p, t, Onward::Past);
-                self.turn(u, Doing::Reacquiring { mutex });
+                self.turn(u, Doing::Reacquiring { mutex, taken: 0 });
                 Stepped::Done(Did::Signal(Some(u)))
             }
             None => Stepped::NotEnabled,
@@ -150,8 +150,7 @@ impl State {
         requires state { IsStateOf p.now self.old }
         requires small { IsSmallPlace (place_of cond.now) }
         ensures is { (at : At p.now self.old t (bare.Signal (place_of cond.now)))
-            → Answers false (signalled_to (state_of p.now self.old) t (frame at.locals at.rest ∷ at.more) u (condition_at (shown p.now) (state_of p.now self.old) at.locals (place_of cond.now)))
-            result (state_of p.now self.old) (state_of p.now self.new) }
+            → Steps p.now self.old self.new result false (signalled_to (state_of p.now self.old) t (frame at.locals at.rest ∷ at.more) u (condition_at (shown p.now) (state_of p.now self.old) at.locals (place_of cond.now))) }
         ensures kept { IsStateOf p.now self.new }
     {
         match self.condition_at(p, t, cond) {
@@ -162,12 +161,12 @@ impl State {
 
     /// A waiting thread wakes without a signal.
     pub(crate) fn wake(&mut self, t: u32) -> Stepped
-        ensures is { (p : tree.Program) → Answers false (awoken (state_of p self.old) t (slice_get (state_of p self.old).threads t)) result (state_of p self.old) (state_of p self.new) }
+        ensures is { (p : tree.Program) → Steps p self.old self.new result false (awoken (state_of p self.old) t (slice_get (state_of p self.old).threads t)) }
         ensures kept { (p : tree.Program) → IsStateOf p self.old → IsStateOf p self.new }
     {
         match self.doing(t as usize) {
             Some(Doing::Waiting { mutex, .. }) => {
-                self.turn(t, Doing::Reacquiring { mutex });
+                self.turn(t, Doing::Reacquiring { mutex, taken: 0 });
                 Stepped::Done(Did::Wake)
             }
             _ => Stepped::NotEnabled,

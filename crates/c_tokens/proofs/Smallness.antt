@@ -9,7 +9,7 @@ use Rattle.c_lexer.specs.declared.token.Sign.{Sign}
 use Rattle.c_lexer.specs.Classes.{is_letter, is_digit, is_blank, is_word}
 use Rattle.c_lexer.specs.Pieces.{Kind, Piece, Found, up_to, alone}
 use Rattle.c_lexer.specs.Words.{name_of, number_of, is_plain, decimal, largest}
-use Rattle.c_lexer.specs.Signs.{single, double, sign_of, one_byte, two_bytes}
+use Rattle.c_lexer.specs.Signs.{single, double, triple, sign_of, one_byte, several_bytes}
 use Rattle.c_lexer.specs.Readings.{after_close, closed, block_comment, line_comment, after_quote, quoted, after_mark}
 use Rattle.c_lexer.specs.Directives.{after_bytes, after_gap, word, after_word, is_name, is_number, Definition, defined_number, defined_name, definition, defined, definition_line, include_line, after_include, tail, directive}
 use Rattle.c_lexer.specs.Lexeme.{lexeme, slash_of}
@@ -45,18 +45,19 @@ small_up_to rest found h = by (length found.left == length rest)
     by true = h
     by false = refl
 
+small_bytes : (o : Option Sign) → small (several_bytes o) ≡ true
+small_bytes None = refl
+small_bytes (Some sign) = refl
+
 small_sign : (b : ℕ) (w : List ℕ) → small (sign_of b w) ≡ true
 small_sign b [] = by (single b)
   where
     by : (o : Option Sign) → small (Some (one_byte o)) ≡ true
     by None = refl
     by (Some sign) = refl
-small_sign b (c ∷ []) = by (double b c)
-  where
-    by : (o : Option Sign) → small (two_bytes o) ≡ true
-    by None = refl
-    by (Some sign) = refl
-small_sign b (c ∷ d ∷ w) = refl
+small_sign b (c ∷ []) = small_bytes (double b c)
+small_sign b (c ∷ d ∷ []) = small_bytes (triple b c d)
+small_sign b (c ∷ d ∷ e ∷ w) = refl
 
 small_text : (rest text : List ℕ) → small (up_to rest (after_mark text)) ≡ true
 small_text rest text = small_up_to rest (after_mark text) (by (after_quote text))

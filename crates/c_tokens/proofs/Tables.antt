@@ -41,8 +41,9 @@ module _ {S : Type 0} where
 -- the words of the grammar, in the order in which they are put
 abbrev pub names_table : List FixedWord
 names_table =
-    w.Give ∷ w.Take ∷ w.Capacities ∷ w.Broadcast ∷ w.Signal ∷ w.Wait ∷ w.Unlock ∷ w.Lock ∷ w.InitCondition ∷ w.InitMutex ∷ w.Join ∷ w.Create
-    ∷ w.ConditionInitializer ∷ w.MutexInitializer ∷ w.Condition ∷ w.Mutex ∷ w.Thread ∷ w.Scan ∷ w.Print ∷ w.IntPointer ∷ w.Null ∷ w.Parameter ∷ w.Main ∷ []
+    w.ControlledWait ∷ w.Give ∷ w.Take ∷ w.Capacities ∷ w.Broadcast ∷ w.Signal ∷ w.Wait ∷ w.Unlock ∷ w.TryLock ∷ w.Lock ∷ w.InitCondition ∷ w.InitMutex ∷ w.Join ∷ w.Create
+    ∷ w.ConditionInitializer ∷ w.MutexInitializer ∷ w.Condition ∷ w.Mutex ∷ w.Thread ∷ w.Scan ∷ w.Print ∷ w.IntPointer ∷ w.Null ∷ w.MutexParameter ∷ w.ConditionParameter
+    ∷ w.Parameter ∷ w.Main ∷ []
 
 abbrev pub keywords_table : List FixedWord
 keywords_table = w.Return ∷ w.For ∷ w.While ∷ w.Else ∷ w.If ∷ w.Long ∷ w.Static ∷ w.Void ∷ w.Int ∷ []

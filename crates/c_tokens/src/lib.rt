@@ -10,6 +10,3 @@ mod reader;
 mod words;
 
 pub use reader::{End, MOST_TOKENS, Tokens, read_tokens};
-
-#[cfg(test)]
-mod tests;

@@ -12,7 +12,8 @@ use std::alloc::{AllocError, Global};
 pub type Known<'t> = IndexMap<&'t [u8], What>;
 
 /// The words of the grammar that are no keywords of C.
-const NAMES: [FixedWord; 23] = [
+const NAMES: [FixedWord; 27] = [
+    FixedWord::ControlledWait,
     FixedWord::Give,
     FixedWord::Take,
     FixedWord::Capacities,
@@ -20,6 +21,7 @@ const NAMES: [FixedWord; 23] = [
     FixedWord::Signal,
     FixedWord::Wait,
     FixedWord::Unlock,
+    FixedWord::TryLock,
     FixedWord::Lock,
     FixedWord::InitCondition,
     FixedWord::InitMutex,
@@ -34,6 +36,8 @@ const NAMES: [FixedWord; 23] = [
     FixedWord::Print,
     FixedWord::IntPointer,
     FixedWord::Null,
+    FixedWord::MutexParameter,
+    FixedWord::ConditionParameter,
     FixedWord::Parameter,
     FixedWord::Main,
 ];

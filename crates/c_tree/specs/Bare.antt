@@ -20,8 +20,9 @@ mutual
     InitMutex : (place : Place) → Stmt
     InitCond : (place : Place) → Stmt
     Lock : (place : Place) → Stmt
+    TryLock : (place : Place) (taken busy : Stmts) → Stmt
     Unlock : (place : Place) → Stmt
-    Wait : (cond : Place) (mutex : Place) → Stmt
+    Wait : (cond : Place) (mutex : Place) (takes : List ℕ) → Stmt
     Signal : (cond : Place) → Stmt
     Broadcast : (cond : Place) → Stmt
     Take : (monitor : ℕ) → Stmt
@@ -30,6 +31,11 @@ mutual
   pub data Stmts : Type 0 where
     Nil : Stmts
     Cons : (first : Stmt) (rest : Stmts) → Stmts
+
+-- a list of statements, and others behind it
+abbrev pub before : Stmts → Stmts → Stmts
+before Nil rest = rest
+before (Cons s more) rest = Cons s (before more rest)
 
 pub record Cell : Type 0 where
   pub name : List ℕ

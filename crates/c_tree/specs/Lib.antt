@@ -3,4 +3,4 @@ pub mod Bare
 pub mod Lined
 pub mod Values
 pub mod Numbering
-pub mod FirstForm
+pub mod Everywhere

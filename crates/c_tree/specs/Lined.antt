@@ -31,8 +31,9 @@ mutual
     InitMutex : (line : ℕ) (place : Place) → Stmt
     InitCond : (line : ℕ) (place : Place) → Stmt
     Lock : (line : ℕ) (place : Place) → Stmt
+    TryLock : (line : ℕ) (place : Place) (taken busy : Stmts) → Stmt
     Unlock : (line : ℕ) (place : Place) → Stmt
-    Wait : (line : ℕ) (cond : Place) (mutex : Place) → Stmt
+    Wait : (line : ℕ) (cond : Place) (mutex : Place) (takes : List ℕ) → Stmt
     Signal : (line : ℕ) (cond : Place) → Stmt
     Broadcast : (line : ℕ) (cond : Place) → Stmt
     Take : (line : ℕ) (monitor : ℕ) → Stmt
@@ -78,8 +79,9 @@ line_of (Join line slot) = line
 line_of (InitMutex line place) = line
 line_of (InitCond line place) = line
 line_of (Lock line place) = line
+line_of (TryLock line place taken busy) = line
 line_of (Unlock line place) = line
-line_of (Wait line cond mutex) = line
+line_of (Wait line cond mutex takes) = line
 line_of (Signal line cond) = line
 line_of (Broadcast line cond) = line
 line_of (Take line monitor) = line
@@ -105,8 +107,9 @@ act_layer (open_of.Join slot) line = Join line (place_of slot)
 act_layer (open_of.InitMutex place) line = InitMutex line (place_of place)
 act_layer (open_of.InitCond place) line = InitCond line (place_of place)
 act_layer (open_of.Lock place) line = Lock line (place_of place)
+act_layer (open_of.TryLock place taken busy) line = TryLock line (place_of place) (listed taken) (listed busy)
 act_layer (open_of.Unlock place) line = Unlock line (place_of place)
-act_layer (open_of.Wait cond mutex) line = Wait line (place_of cond) (place_of mutex)
+act_layer (open_of.Wait cond mutex takes) line = Wait line (place_of cond) (place_of mutex) takes
 act_layer (open_of.Signal cond) line = Signal line (place_of cond)
 act_layer (open_of.Broadcast cond) line = Broadcast line (place_of cond)
 act_layer (open_of.Take monitor) line = Take line monitor
@@ -157,8 +160,9 @@ abbrev mutual
   bare_stmt (InitMutex line place) = bare.InitMutex place
   bare_stmt (InitCond line place) = bare.InitCond place
   bare_stmt (Lock line place) = bare.Lock place
+  bare_stmt (TryLock line place taken busy) = bare.TryLock place (bare_stmts taken) (bare_stmts busy)
   bare_stmt (Unlock line place) = bare.Unlock place
-  bare_stmt (Wait line cond mutex) = bare.Wait cond mutex
+  bare_stmt (Wait line cond mutex takes) = bare.Wait cond mutex takes
   bare_stmt (Signal line cond) = bare.Signal cond
   bare_stmt (Broadcast line cond) = bare.Broadcast cond
   bare_stmt (Take line monitor) = bare.Take monitor

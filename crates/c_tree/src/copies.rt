@@ -2,7 +2,7 @@
 ghost use Rattle.std.specs.Prelude.{◌≡◌, IfOk};
 
 use crate::expr::{Expr, Exprs, Name, Place};
-use crate::program::{Array, Cell, Function, Object, Program, Slot};
+use crate::program::{Array, Cell, Function, Numbers, Object, Program, Slot};
 use crate::stmt::{Act, Stmt, Stmts};
 use sqlite_items::{Boxed, Items};
 use std::alloc::{AllocError, Global};
@@ -187,12 +187,13 @@ fn copy_unlock(alloc: Global, place: &Place) -> Result<Act, AllocError>
     })
 }
 
-fn copy_wait(alloc: Global, cond: &Place, mutex: &Place) -> Result<Act, AllocError>
-    ensures { IfOk result (λ a. a ≡ Act.Wait cond.now mutex.now) }
+fn copy_wait(alloc: Global, cond: &Place, mutex: &Place, takes: &Numbers) -> Result<Act, AllocError>
+    ensures { IfOk result (λ a. a ≡ Act.Wait cond.now mutex.now takes.now) }
 {
     Ok(Act::Wait {
         cond: cond.copy(alloc)?,
         mutex: mutex.copy(alloc)?,
+        takes: Items::from_slice(alloc, takes.as_slice())?,
     })
 }
 
@@ -268,6 +269,11 @@ impl Act {
                 step: copy_stmts(alloc, step)?,
                 body: copy_stmts(alloc, body)?,
             }),
+            Act::TryLock { place, taken, busy } => Ok(Act::TryLock {
+                place: place.copy(alloc)?,
+                taken: copy_stmts(alloc, taken)?,
+                busy: copy_stmts(alloc, busy)?,
+            }),
             Act::Declare { name, value } => copy_declare(alloc, name, value),
             Act::Assign { target, value } => copy_assign(alloc, target, value),
             Act::Call {
@@ -288,7 +294,7 @@ impl Act {
             Act::InitCond { place } => copy_init_cond(alloc, place),
             Act::Lock { place } => copy_lock(alloc, place),
             Act::Unlock { place } => copy_unlock(alloc, place),
-            Act::Wait { cond, mutex } => copy_wait(alloc, cond, mutex),
+            Act::Wait { cond, mutex, takes } => copy_wait(alloc, cond, mutex, takes),
             Act::Signal { cond } => copy_signal(alloc, cond),
             Act::Broadcast { cond } => copy_broadcast(alloc, cond),
             Act::Take { monitor } => Ok(Act::Take { monitor: *monitor }),

@@ -9,13 +9,11 @@ mod copies;
 mod expr;
 mod program;
 mod stmt;
-#[cfg(test)]
-mod tests;
 
 pub use copies::{Copies, copy_exprs, copy_items, copy_name, copy_stmts};
 pub use expr::{Expr, Exprs, Name, Names, Op, Place};
 pub use program::{
-    Array, Arrays, Caps, Cell, Cells, Function, Functions, Kind, Mode, Object, Objects, Program,
-    Slot, Slots, Values,
+    Array, Arrays, Caps, Cell, Cells, Function, Functions, Kind, Mode, Numbers, Object, Objects,
+    Program, Slot, Slots, Values,
 };
 pub use stmt::{Act, Stmt, Stmts};

@@ -23,6 +23,9 @@ pub type Functions = Items<Function>;
 /// The capacities of the monitors.
 pub type Caps = Items<u32>;
 
+/// Numbers that count monitors from 0.
+pub type Numbers = Items<u32>;
+
 /// Numbers of type `int`.
 pub type Values = Items<i32>;
 
@@ -143,19 +146,13 @@ pub struct Program {
 impl Program {
     /// The place, counted from 0, of the first function of a name, and `None` exactly where the
     /// program has no function of that name.
-    pub fn find_function(&self, name: &[u8]) -> Option<u32>
-        requires { length self.now.functions < 1000000 }
+    pub fn find_function(&self, name: &[u8]) -> Option<usize>
         ensures first { result ≡ position (λ f. bytes_eq f.name name.now) self.now.functions }
         ensures within { IfSome result (λ place. place < length self.now.functions) }
     {
-        let place = place_of(self.functions.as_slice(), name)?;
-        Some(place as u32)
+        self.functions
+            .as_slice()
+            .iter()
+            .position(|f| f.name.as_slice() == name)
     }
-}
-
-fn place_of(functions: &[Function], name: &[u8]) -> Option<usize>
-    ensures place { result ≡ position (λ f. bytes_eq f.name name.now) functions.now }
-    ensures within { IfSome result (λ place. place < length functions.now) }
-{
-    functions.iter().position(|f| f.name.as_slice() == name)
 }

@@ -1,6 +1,7 @@
 // Statements.
 
 use crate::expr::{Expr, Exprs, Name, Place};
+use crate::program::Numbers;
 use sqlite_items::Items;
 
 /// Statements in the order of the text.
@@ -117,17 +118,29 @@ pub enum Act {
         /// The mutex.
         place: Place,
     },
+    /// `if` over `pthread_mutex_trylock`
+    TryLock {
+        /// The mutex.
+        place: Place,
+        /// What is done where the mutex was free and is locked now.
+        taken: Stmts,
+        /// What is done where the mutex has an owner.
+        busy: Stmts,
+    },
     /// `pthread_mutex_unlock`
     Unlock {
         /// The mutex.
         place: Place,
     },
-    /// `pthread_cond_wait`
+    /// `pthread_cond_wait`, or `gd_cond_wait` where it takes tokens.
     Wait {
         /// The condition.
         cond: Place,
         /// The mutex that is released meanwhile.
         mutex: Place,
+        /// The monitors, counted from 0, of which the thread takes a token each after it wakes, in
+        /// this order, before it takes the mutex.
+        takes: Numbers,
     },
     /// `pthread_cond_signal`
     Signal {

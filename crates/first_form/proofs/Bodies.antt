@@ -4,7 +4,7 @@ use Rattle.std.specs.List.{list_all}
 use Rattle.std.proofs.Math.Bool.{and-true, and-false}
 use Rattle.c_tree.specs.declared.stmt.Stmt as declared
 use Rattle.c_tree.specs.Bare.{Stmt, Stmts, Nil, Cons, Program, Return, Join}
-use Rattle.c_tree.specs.FirstForm.{is_slot, is_joining, is_first_act, is_thread_body}
+use Rattle.first_form.specs.FirstForm.{is_slot, is_joining, is_first_act, is_thread_body}
 use Rattle.first_form.specs.Shown.{shown_stmt, shown_body}
 use Rattle.first_form.specs.Bodies.{returns_null, returns_nothing, is_join}
 

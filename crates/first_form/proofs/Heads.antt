@@ -8,7 +8,8 @@ use Rattle.c_tree.specs.declared.program.Function.{Function}
 use Rattle.c_tree.specs.declared.program.Program as declared
 use Rattle.c_tree.specs.Lined.{bare_function, function_of}
 use Rattle.c_tree.specs.Bare.{Program}
-use Rattle.c_tree.specs.FirstForm.{mentions, all_differ, is_reserved, outer_names, has_good_names, is_thread, is_main, has_first_functions, has_first_declarations, is_balanced, has_balanced_locks, is_first_form}
+use Rattle.c_rules.specs.Names.{mentions, is_reserved}
+use Rattle.first_form.specs.FirstForm.{all_differ, outer_names, has_good_names, is_thread, is_main, has_first_functions, has_first_declarations, is_balanced, has_balanced_locks, is_first_form}
 use Rattle.first_form.specs.Shown.{shown}
 
 pub when_true : (first second whole : Bool) → first ≡ true → whole ≡ second → whole ≡ (first && second)

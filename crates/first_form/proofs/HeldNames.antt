@@ -8,7 +8,8 @@ use Rattle.std.proofs.lemmas.Map.Views.{any-filter_same}
 use Rattle.c_tree.specs.declared.stmt.Stmt as declared
 use Rattle.c_tree.specs.Bare.{Stmt, Program}
 use Rattle.c_tree.specs.Lined.{stmt_of, stmts_of, line_of}
-use Rattle.c_tree.specs.FirstForm.{mentions, mutexes_of, holds, holds_some, releases_held, is_balanced, is_lock, nested_line}
+use Rattle.c_rules.specs.Names.{mentions}
+use Rattle.first_form.specs.FirstForm.{mutexes_of, holds, holds_some, releases_held, is_balanced, is_lock, nested_line}
 use Rattle.first_form.specs.Shown.{shown_stmt, shown_body}
 use Rattle.first_form.specs.Sets.{texts}
 use Rattle.first_form.specs.Locks.{AreHeld, above}

@@ -1,7 +1,11 @@
 pub mod Sets
 pub mod Lists
 pub mod OuterNames
-pub mod Copies
 pub mod Bodies
 pub mod HeldNames
 pub mod Heads
+pub mod Quiet
+pub mod Kept
+pub mod KeptActs
+pub mod KeptRuns
+pub mod NotStuck

@@ -1,7 +1,7 @@
 -- Lists that are searched by a field.
 use Rattle.std.proofs.Common.{◌≡◌, ℕ, Bool, true, false, ◌&&◌, ◌||◌, List, [], ◌∷◌, map, filter, refl, ap, bytes_eq}
 use Rattle.std.specs.List.{list_any}
-use Rattle.c_tree.specs.FirstForm.{mentions}
+use Rattle.c_rules.specs.Names.{mentions}
 
 pub list_any-map : {A B : Type 0} (test : B → Bool) (f : A → B) (xs : List A) → list_any test (map f xs) ≡ list_any (λ x. test (f x)) xs
 list_any-map test f [] = refl

@@ -7,7 +7,8 @@ use Rattle.c_tree.specs.declared.program.Object.{Object}
 use Rattle.c_tree.specs.declared.program.Slot.{Slot}
 use Rattle.c_tree.specs.declared.program.Function.{Function}
 use Rattle.c_tree.specs.Lined.{bare_cell, bare_object, bare_slot, bare_function, function_of}
-use Rattle.c_tree.specs.FirstForm.{mentions, start_functions, is_thread_kind, outer_names, ints_of, mutexes_of}
+use Rattle.c_rules.specs.Names.{mentions}
+use Rattle.first_form.specs.FirstForm.{start_functions, is_thread_kind, outer_names, ints_of, mutexes_of}
 use Rattle.std.specs.List.{list_any}
 use Rattle.first_form.specs.Shown.{shown}
 use Rattle.first_form.proofs.Lists.{list_any-map, list_any-filter}

@@ -8,7 +8,8 @@ use Rattle.std.proofs.lemmas.List.Folds.{list_any-append}
 use Rattle.std.proofs.lemmas.List.Sorted.{list_any-IsPermutation}
 use Rattle.std.proofs.lemmas.Bool.{not-true}
 use Rattle.std.proofs.lemmas.Slice.Eq.{bytes_eq-Decides}
-use Rattle.c_tree.specs.FirstForm.{mentions, all_differ}
+use Rattle.c_rules.specs.Names.{mentions}
+use Rattle.first_form.specs.FirstForm.{all_differ}
 use Rattle.first_form.specs.Sets.{texts, knows, Knows}
 use denote.Ref.{Bor}
 

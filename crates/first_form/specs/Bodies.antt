@@ -3,7 +3,7 @@ use Rattle.std.specs.Prelude.{ℕ, Bool, false, Some, None, true}
 use Rattle.std.specs.declared.option.Option.{Option}
 use Rattle.c_tree.specs.Expressions.{Expr, Number}
 use Rattle.c_tree.specs.Bare.{Stmt, Program, Create, Join, Return}
-use Rattle.c_tree.specs.FirstForm.{is_slot, is_null}
+use Rattle.first_form.specs.FirstForm.{is_slot, is_null}
 
 -- `return NULL`, as it stands last in a thread function
 abbrev pub returns_nothing : Stmt → Bool

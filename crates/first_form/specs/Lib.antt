@@ -1,3 +1,4 @@
+pub mod FirstForm
 pub mod Shown
 pub mod Sets
 pub mod Bodies

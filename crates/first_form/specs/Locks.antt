@@ -2,7 +2,8 @@
 use Rattle.std.specs.Prelude.{◌≡◌, ℕ, List, map, reverse, take}
 use Rattle.c_tree.specs.declared.stmt.Stmt as declared
 use Rattle.c_tree.specs.Bare.{Stmt}
-use Rattle.c_tree.specs.FirstForm.{mentions, holds}
+use Rattle.c_rules.specs.Names.{mentions}
+use Rattle.first_form.specs.FirstForm.{holds}
 use Rattle.first_form.specs.Shown.{shown_stmt}
 
 -- these names are those of the mutexes that are held behind the statements above

@@ -1,7 +1,7 @@
 -- Sets of names against lists of names.
 use Rattle.std.specs.Prelude.{◌≡◌, ℕ, Bool, List, map, bytes_eq}
 use Rattle.std.specs.HashSet.{HashSet, contains_by}
-use Rattle.c_tree.specs.FirstForm.{mentions}
+use Rattle.c_rules.specs.Names.{mentions}
 use denote.Ref.{Bor}
 
 -- the names that slices hold

@@ -1,9 +1,9 @@
 -- How many tokens the text of the first form has that spells a program. In that text a statement of each kind is spelled in one way.
-use Rattle.std.specs.Prelude.{ℕ, ◌+◌, ◌*◌, nat_le, Bool, ◌&&◌, List, length, map, sum}
+use Rattle.std.specs.Prelude.{ℕ, ◌+◌, ◌*◌, nat_le, Bool, ◌&&◌, length, map, sum}
 use Rattle.c_tree.specs.declared.program.Kind.{Kind}
 use Rattle.c_tree.specs.declared.program.Kind.TheVariants as k
 use Rattle.c_tree.specs.Bare.{Stmt, Stmts, Nil, Cons, Assign, Lock, Unlock, Create, Join, Return, Function, Program}
-use Rattle.c_tree.specs.FirstForm.{is_first_form}
+use Rattle.first_form.specs.FirstForm.{is_first_form}
 
 -- `x = x + 1 ;`, `pthread_mutex_lock ( & a ) ;`, `pthread_create ( & t [ 0 ] , NULL , f , NULL ) ;`, `pthread_join ( t [ 0 ] , NULL ) ;` and
 -- `return NULL ;`; the first form has no others.

@@ -2,14 +2,16 @@
 ghost use Rattle.std.specs.Prelude.{◌≡◌, ◌&&◌, [], IfOk, length, map, nat_le, not};
 ghost use Rattle.std.specs.List.{list_all};
 ghost use Rattle.c_tree.specs.Lined.{bare_cell, bare_object, bare_slot, bare_function, function_of};
-ghost use Rattle.c_tree.specs.FirstForm.{is_zero_int, is_ready_mutex, is_thread_array, has_first_declarations, is_reserved, has_good_names, is_main_kind, is_thread, is_main, has_first_functions, is_balanced};
+ghost use Rattle.c_rules.specs.Names.{is_reserved};
+ghost use Rattle.first_form.specs.FirstForm.{is_zero_int, is_ready_mutex, is_thread_array, has_first_declarations, has_good_names, is_main_kind, is_thread, is_main, has_first_functions, is_balanced};
 ghost use Rattle.first_form.specs.Shown.{shown, shown_body};
 ghost use Rattle.first_form.specs.Sets.{texts, knows};
 
 use crate::locks::is_balanced;
 use crate::main_body::{has_good_threads, is_main_body, is_thread_kind};
-use crate::names::{NameSet, distinct_names, is_known, is_reserved, outer_names};
+use crate::names::{NameSet, distinct_names, is_known, outer_names};
 use crate::scope::Scope;
+use c_names::is_reserved;
 use c_tree::{Cell, Function, Kind, Object, Program, Slot};
 use std::alloc::{AllocError, Global};
 

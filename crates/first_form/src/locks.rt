@@ -3,7 +3,8 @@ ghost use Rattle.std.specs.Prelude.{◌≡◌, ◌&&◌, ◌||◌, ℕ, List, []
 ghost use Rattle.std.specs.List.{list_any};
 ghost use Rattle.c_tree.specs.Bare as bare;
 ghost use Rattle.c_tree.specs.Lined.{stmt_of, stmts_of, line_of};
-ghost use Rattle.c_tree.specs.FirstForm.{mentions, mutexes_of, releases_held, holds_some, is_lock, is_balanced, nested_line};
+ghost use Rattle.c_rules.specs.Names.{mentions};
+ghost use Rattle.first_form.specs.FirstForm.{mutexes_of, releases_held, holds_some, is_lock, is_balanced, nested_line};
 ghost use Rattle.first_form.specs.Shown.{shown, shown_stmt, shown_body};
 ghost use Rattle.first_form.specs.Sets.{texts};
 ghost use Rattle.first_form.specs.Locks.{AreHeld};

@@ -1,7 +1,8 @@
 // Statements of main.
 ghost use Rattle.std.specs.Prelude.{◌≡◌, ◌&&◌, IfOk};
 ghost use Rattle.std.specs.List.{list_all};
-ghost use Rattle.c_tree.specs.FirstForm.{mentions, slots_of, slot_len, start_functions, is_thread_kind, is_number_below, is_slot, is_null, is_joining, is_main_body, created, joined, has_number, numbers_differ, has_good_threads};
+ghost use Rattle.c_rules.specs.Names.{mentions};
+ghost use Rattle.first_form.specs.FirstForm.{slots_of, slot_len, start_functions, is_thread_kind, is_number_below, is_slot, is_null, is_joining, is_main_body, created, joined, has_number, numbers_differ, has_good_threads};
 ghost use Rattle.c_tree.specs.Expressions.{expr_of, place_of, value_of};
 ghost use Rattle.first_form.specs.Shown.{shown, shown_stmt, shown_body};
 ghost use Rattle.first_form.specs.Bodies.{returns_null, is_join, number_of, created_by, joined_by};

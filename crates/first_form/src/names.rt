@@ -1,7 +1,8 @@
 // Names: which ones are kept, and sets of them.
 ghost use Rattle.std.specs.Prelude.{◌≡◌, [], ◌∷◌, ℕ, List, IfOk, OnOk, IfSome, map, is_some, length, take, reverse, ◌≤◌, codes, ◌&&◌, not, ◌++◌};
 ghost use Rattle.std.specs.List.{list_all};
-ghost use Rattle.c_tree.specs.FirstForm.{mentions, all_differ, is_reserved, is_copy_backwards, after_digits, outer_names};
+ghost use Rattle.c_rules.specs.Names.{mentions, is_reserved};
+ghost use Rattle.first_form.specs.FirstForm.{all_differ, outer_names};
 ghost use Rattle.first_form.specs.Shown.{shown};
 ghost use Rattle.first_form.specs.Sets.{texts, knows, Knows};
 
@@ -111,44 +112,4 @@ pub fn outer_names<'a>(alloc: Global, p: &'a Program) -> Result<Vec<&'a [u8]>, A
     push_names(&mut names, p.threads.as_slice())?;
     push_names(&mut names, p.functions.as_slice())?;
     Ok(names)
-}
-
-fn end_without_digits(name: &[u8]) -> usize
-    ensures within { result ≤ length name.now }
-    ensures cut { after_digits (reverse name.now) ≡ reverse (take result name.now) }
-{
-    let mut end = name.len();
-    while end > 0 && name[end - 1].is_ascii_digit() {
-        end -= 1;
-    }
-    end
-}
-
-/// Whether a name ends in `_gd` and at least one digit, as the names of copies do.
-fn is_copy(name: &[u8]) -> bool
-    ensures { result ≡ is_copy_backwards (reverse name.now) }
-{
-    let end = end_without_digits(name);
-    end < name.len() && name[..end].ends_with(b"_gd")
-}
-
-/// Whether a name is kept for the tool, for POSIX threads or for the library.
-pub fn is_reserved(name: &[u8]) -> bool
-    ensures { result ≡ is_reserved name.now }
-{
-    name.starts_with(b"gd_")
-        || name.starts_with(b"pthread_")
-        || name.starts_with(b"PTHREAD_")
-        || is_library_name(name)
-        || is_copy(name)
-}
-
-/// Whether a name is a word of the library that a program may use.
-fn is_library_name(name: &[u8]) -> bool
-    ensures { result ≡ mentions (codes "NULL" ∷ codes "printf" ∷ codes "scanf" ∷ codes "intptr_t" ∷ []) name.now }
-{
-    name == b"NULL".as_slice()
-        || name == b"printf".as_slice()
-        || name == b"scanf".as_slice()
-        || name == b"intptr_t".as_slice()
 }

@@ -1,6 +1,7 @@
 // Statements of threads.
 ghost use Rattle.std.specs.Prelude.{◌≡◌, IfOk, List};
-ghost use Rattle.c_tree.specs.FirstForm.{mentions, ints_of, mutexes_of, is_scalar_of, is_sum, is_first_act, is_thread_body};
+ghost use Rattle.c_rules.specs.Names.{mentions};
+ghost use Rattle.first_form.specs.FirstForm.{ints_of, mutexes_of, is_scalar_of, is_sum, is_first_act, is_thread_body};
 ghost use Rattle.c_tree.specs.Expressions.{expr_of, place_of};
 ghost use Rattle.first_form.specs.Shown.{shown, shown_stmt, shown_body};
 ghost use Rattle.first_form.specs.Sets.{Knows};

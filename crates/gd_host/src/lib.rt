@@ -11,6 +11,3 @@ mod real;
 pub use host::{EmitFailed, FetchError, Host};
 pub use memory::MemoryHost;
 pub use real::RealHost;
-
-#[cfg(test)]
-mod tests;

@@ -5,9 +5,5 @@
 #![tactic(auto)]
 
 mod laws;
-#[cfg(test)]
-mod tests;
-#[cfg(test)]
-mod texts;
 
 pub use laws::round_trip;

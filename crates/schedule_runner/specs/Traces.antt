@@ -1,11 +1,11 @@
 -- Runs by schedules, and what a trace says of one.
-use Rattle.std.specs.Prelude.{◌≡◌, ◌≢◌, ℕ, ℤ, suc, ◌<◌, Bool, List, length, take, drop, slice_get, Some, ⊤}
+use Rattle.std.specs.Prelude.{◌≡◌, ◌≢◌, ℕ, ℤ, suc, ◌<◌, Bool, IsTrue, List, length, take, drop, slice_get, Some, ⊤}
 use Rattle.std.specs.declared.option.Option.{Option}
 use Rattle.c_tree.specs.Bare.{Program}
 use Rattle.c_check.specs.Tables.{Numbers}
 use Rattle.c_meaning.specs.declared.Did.{Did}
 use Rattle.c_meaning.specs.declared.Event.{Event}
-use Rattle.c_meaning.specs.Closed.{has, LiesIn}
+use Rattle.c_meaning.specs.Closed.{has}
 use Rattle.c_meaning.specs.Outcome as outcome
 use Rattle.c_meaning.specs.Run.{run}
 use Rattle.c_meaning.specs.State.{State, start}
@@ -53,7 +53,7 @@ pub record IsFollowed (p : Program) (n : Numbers) (first : State) (es : List Eve
 pub record IsLargestStuck (p : Program) (s : State) (set : ℕ) : Type 0 where
   pub none : set ≡ 0 → (threads : ℕ → Bool) → IsStuck p s threads → ⊥
   pub stuck : set ≢ 0 → IsStuck p s (has set)
-  pub each : (threads : ℕ → Bool) → IsStuck p s threads → LiesIn threads set
+  pub each : (threads : ℕ → Bool) → IsStuck p s threads → (t : ℕ) → IsTrue (threads t) → IsTrue (has set t)
 
 -- a trace is that of the longest front of the schedule that is a run
 pub record IsTrace (p : Program) (n : Numbers) (input : List ℤ) (es : List Event) (trace : Trace) : Type 0 where

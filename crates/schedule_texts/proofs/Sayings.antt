@@ -1,7 +1,6 @@
 -- Lines that say events, one line more.
-use Rattle.std.proofs.Common.{◌≡◌, ℕ, suc, ◌+◌, ◌<◌, ◌≤◌, ◌^◌, true, false, List, [], ◌∷◌, ◌++◌, length, get_or, take, map, sym, ap, ◌∙◌, subst, ⊎_elim, arith}
+use Rattle.std.proofs.Common.{◌≡◌, ℕ, ◌+◌, ◌<◌, ◌≤◌, ◌^◌, true, false, List, [], ◌∷◌, ◌++◌, length, get_or, take, map, sym, ap, ◌∙◌, subst, ⊎_elim, arith}
 use Rattle.std.specs.Prelude.{not, cond, ◌==◌}
-use Rattle.std.proofs.Math.Seq.{take-suc}
 use Rattle.std.proofs.lemmas.List.Splits.{length-slice_split}
 use Rattle.std.proofs.lemmas.List.Sums.{count_by-le-length}
 use Rattle.std.proofs.lemmas.List.{append-nil, length-append, length-map, get_or-map}
@@ -12,6 +11,7 @@ use Rattle.schedule_texts.specs.declared.event.Line.{Line}
 use Rattle.schedule_texts.specs.declared.event.Line.TheVariants.{Silent, Says, Bad}
 use Rattle.schedule_texts.specs.Events.{Spells}
 use Rattle.schedule_texts.specs.Schedules.{EachSpells, Say, LineIs, is_silent, said, lines_of, most_events, IsBad, IsBadAt, IsTooLong}
+use Rattle.schedule_texts.proofs.Shapes.{next, inside}
 
 EachSpells-more : (lines : List (List ℕ)) (es : List Event) (line : List ℕ) (e : Event) → EachSpells lines es → Spells line e → EachSpells (lines ++ line ∷ []) (es ++ e ∷ [])
 EachSpells-more [] [] line e each spells = (spells, tt)
@@ -30,10 +30,6 @@ pub Say-more : (lines : List (List ℕ)) (es : List Event) (line : List ℕ) (e 
 Say-more lines es line e say says spells =
     let alone : said (line ∷ []) ≡ line ∷ [] = ap (λ b. cond (not b) (line ∷ []) []) says in
     subst (λ xs. EachSpells xs (es ++ e ∷ [])) (sym (filter-append (λ l. not (is_silent l)) lines (line ∷ []) ∙ ap (λ xs. said lines ++ xs) alone)) (EachSpells-more (said lines) es line e say spells)
-
--- the lines up to one, with it
-next : (lines : List (List ℕ)) (k : ℕ) → k < length lines → take (k + 1) lines ≡ take k lines ++ get_or lines k [] ∷ []
-next lines k within = let one : k + 1 ≡ suc k = omega arith in ap (λ n. take n lines) one ∙ take-suc lines k [] within
 
 pub next_silent : (lines : List (List ℕ)) (k : ℕ) (es : List Event) → k < length lines → Say (take k lines) es → is_silent (get_or lines k []) ≡ true → Say (take (k + 1) lines) es
 next_silent lines k es within say silent = subst (λ xs. Say xs es) (sym (next lines k within)) (Say-silent (take k lines) es (get_or lines k []) say silent)
@@ -56,27 +52,24 @@ lines_fit text short = omega (arith, length-slice_split (λ b. b == 10) text, co
 
 -- the same of the pieces that a text was cut into, each behind a reference
 module _ {A : Type 0} (f : A → List ℕ) (items : List A) (d : A) where
-  inside : (k : ℕ) → k < length items → k < length (map f items)
-  inside k within = omega (arith, length-map items f, within)
-
   here : (k : ℕ) (answer : Line) → k < length items → LineIs (f (get_or items k d)) answer → LineIs (get_or (map f items) k []) answer
   here k answer within is = subst (λ line. LineIs line answer) (sym (get_or-map f items k d [] within)) is
 
   pub silent_at : (k : ℕ) (es : List Event) → k < length items → Say (take k (map f items)) es → LineIs (f (get_or items k d)) Silent → Say (take (k + 1) (map f items)) es
-  silent_at k es within say is = next_silent (map f items) k es (inside k within) say (here k Silent within is)
+  silent_at k es within say is = next_silent (map f items) k es (inside f items k within) say (here k Silent within is)
 
   pub says_at : (k : ℕ) (es : List Event) (e : Event) → k < length items → Say (take k (map f items)) es → LineIs (f (get_or items k d)) (Says e) → Say (take (k + 1) (map f items)) (es ++ e ∷ [])
-  says_at k es e within say is = let at = here k (Says e) within is in next_event (map f items) k es e (inside k within) say at.0 at.1
+  says_at k es e within say is = let at = here k (Says e) within is in next_event (map f items) k es e (inside f items k within) say at.0 at.1
 
   pub too_long_at : (text : List ℕ) → map f items ≡ lines_of text → (k : ℕ) (es : List Event) (e : Event) → k < length items → Say (take k (map f items)) es → length es ≡ most_events → LineIs (f (get_or items k d)) (Says e) → IsTooLong text
   too_long_at text are k es e within say full is =
       let at = here k (Says e) within is in
-      too_long text k es e (subst (λ xs. k < length xs) are (inside k within)) (subst (λ xs. Say (take k xs) es) are say) full (subst (λ xs. is_silent (get_or xs k []) ≡ false) are at.0) (subst (λ xs. Spells (get_or xs k []) e) are at.1)
+      too_long text k es e (subst (λ xs. k < length xs) are (inside f items k within)) (subst (λ xs. Say (take k xs) es) are say) full (subst (λ xs. is_silent (get_or xs k []) ≡ false) are at.0) (subst (λ xs. Spells (get_or xs k []) e) are at.1)
 
   pub bad_line_at : (text : List ℕ) → map f items ≡ lines_of text → (k : ℕ) (es : List Event) → k < length items → Say (take k (map f items)) es → length es ≤ most_events → LineIs (f (get_or items k d)) Bad → IsBadAt text (k + 1)
   bad_line_at text are k es within say few is = record {
     place = k;
-    within = subst (λ xs. k < length xs) are (inside k within);
+    within = subst (λ xs. k < length xs) are (inside f items k within);
     number = omega arith;
     is_bad = subst (λ xs. IsBad (get_or xs k [])) are (here k Bad within is);
     events = es;

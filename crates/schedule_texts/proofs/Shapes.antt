@@ -1,5 +1,7 @@
 -- Lists of a known length.
-use Rattle.std.proofs.Common.{◌≡◌, ◌≢◌, ℕ, ◌<◌, ◌≤◌, true, false, List, [], ◌∷◌, length, get_or, refl, arith}
+use Rattle.std.proofs.Common.{◌≡◌, ◌≢◌, ℕ, suc, ◌+◌, ◌<◌, ◌≤◌, true, false, List, [], ◌∷◌, ◌++◌, length, get_or, take, map, refl, ap, ◌∙◌, arith}
+use Rattle.std.proofs.Math.Seq.{take-suc}
+use Rattle.std.proofs.lemmas.List.{length-map}
 use Rattle.std.proofs.lemmas.Bool.Decides.{nat_tests}
 use Rattle.schedule_texts.specs.Inputs.{is_empty}
 use Rattle.schedule_texts.specs.Schedules.{is_silent}
@@ -28,3 +30,11 @@ empty_when (x ∷ xs) none = absurd (omega (arith, none))
 pub not_empty_when : (xs : List ℕ) → 0 < length xs → is_empty xs ≡ false
 not_empty_when [] some = absurd (omega (arith, some))
 not_empty_when (x ∷ xs) some = refl
+
+-- one element more of the front of a list
+pub next : (lines : List (List ℕ)) (k : ℕ) → k < length lines → take (k + 1) lines ≡ take k lines ++ get_or lines k [] ∷ []
+next lines k within = let one : k + 1 ≡ suc k = omega arith in ap (λ n. take n lines) one ∙ take-suc lines k [] within
+
+-- a place of a list is one of what a function makes of its elements
+pub inside : {A B : Type 0} (f : A → B) (items : List A) (k : ℕ) → k < length items → k < length (map f items)
+inside f items k within = omega (arith, length-map items f, within)

@@ -1,12 +1,13 @@
 -- Words with their values, one word or line more.
 use Rattle.std.proofs.Common.{◌≡◌, ℕ, ℤ, suc, ◌+◌, ◌<◌, true, false, cond, List, [], ◌∷◌, ◌++◌, length, get_or, take, drop, map, refl, sym, ap, ◌∙◌, subst, arith}
 use Rattle.std.specs.Prelude.{flat_map, not, Contains}
-use Rattle.std.proofs.Math.Seq.{take-suc, split_at}
-use Rattle.std.proofs.lemmas.List.{append-nil, append_assoc, length-map, get_or-map}
+use Rattle.std.proofs.Math.Seq.{split_at}
+use Rattle.std.proofs.lemmas.List.{append-nil, append_assoc, get_or-map}
 use Rattle.std.proofs.lemmas.List.Elements.{filter-append, Contains-append_right}
 use Rattle.std.proofs.lemmas.Grind.{flat_map-append}
 use Rattle.schedule_texts.specs.Schedules.{lines_of}
 use Rattle.schedule_texts.specs.Inputs.{EachValued, HaveValues, AreNumbers, IsNumber, IsBad, IsBadAt, LineAnswers, is_empty, worded, words_of, pieces_of, value_of}
+use Rattle.schedule_texts.proofs.Shapes.{next, inside}
 
 EachValued-append : (words : List (List ℕ)) (vs : List ℤ) (more : List (List ℕ)) (us : List ℤ) → EachValued words vs → EachValued more us → EachValued (words ++ more) (vs ++ us)
 EachValued-append [] [] more us each rest = rest
@@ -29,9 +30,6 @@ one_number pieces piece v old new some is value have =
       ap (λ vs. vs ++ v ∷ []) have.2 ∙ append_assoc old have.0 (v ∷ []),
     )
 
-next : (lines : List (List ℕ)) (k : ℕ) → k < length lines → take (k + 1) lines ≡ take k lines ++ get_or lines k [] ∷ []
-next lines k within = let one : k + 1 ≡ suc k = omega arith in ap (λ n. take n lines) one ∙ take-suc lines k [] within
-
 -- one line more
 one_line : (lines : List (List ℕ)) (line : List ℕ) (old new : List ℤ) → AreNumbers lines old → HaveValues (pieces_of line) old new → AreNumbers (lines ++ line ∷ []) new
 one_line lines line old new are have =
@@ -49,35 +47,32 @@ bad_word pieces k within some =
 
 -- the same of the pieces that a text was cut into, each behind a reference
 module _ {A : Type 0} (f : A → List ℕ) (items : List A) (d : A) where
-  inside : (k : ℕ) → k < length items → k < length (map f items)
-  inside k within = omega (arith, length-map items f, within)
-
   pub empty_at : (k : ℕ) (old new : List ℤ) → k < length items → HaveValues (take k (map f items)) old new → is_empty (f (get_or items k d)) ≡ true → HaveValues (take (k + 1) (map f items)) old new
-  empty_at k old new within have empty = subst (λ ps. HaveValues ps old new) (sym (next (map f items) k (inside k within))) (one_empty (take k (map f items)) (get_or (map f items) k []) old new (ap is_empty (get_or-map f items k d [] within) ∙ empty) have)
+  empty_at k old new within have empty = subst (λ ps. HaveValues ps old new) (sym (next (map f items) k (inside f items k within))) (one_empty (take k (map f items)) (get_or (map f items) k []) old new (ap is_empty (get_or-map f items k d [] within) ∙ empty) have)
 
   pub number_at : (k : ℕ) (v : ℤ) (old new : List ℤ) → k < length items → HaveValues (take k (map f items)) old new → is_empty (f (get_or items k d)) ≡ false → IsNumber (f (get_or items k d)) → v ≡ value_of (f (get_or items k d)) → HaveValues (take (k + 1) (map f items)) old (new ++ v ∷ [])
   number_at k v old new within have some is value =
       let at = sym (get_or-map f items k d [] within) in
-      subst (λ ps. HaveValues ps old (new ++ v ∷ [])) (sym (next (map f items) k (inside k within))) (one_number (take k (map f items)) (get_or (map f items) k []) v old new (ap is_empty (sym at) ∙ some) (subst IsNumber at is) (subst (λ w. v ≡ value_of w) at value) have)
+      subst (λ ps. HaveValues ps old (new ++ v ∷ [])) (sym (next (map f items) k (inside f items k within))) (one_number (take k (map f items)) (get_or (map f items) k []) v old new (ap is_empty (sym at) ∙ some) (subst IsNumber at is) (subst (λ w. v ≡ value_of w) at value) have)
 
   pub bad_word_at : (line : List ℕ) → map f items ≡ pieces_of line → (k : ℕ) → k < length items → is_empty (f (get_or items k d)) ≡ false → (IsNumber (f (get_or items k d)) → ⊥) → IsBad line
   bad_word_at line are k within some none =
       let at = get_or-map f items k d [] within in
       record {
         word = get_or (map f items) k [];
-        stands = subst (λ ps. Contains (worded ps) (get_or (map f items) k [])) are (bad_word (map f items) k (inside k within) (ap is_empty at ∙ some));
+        stands = subst (λ ps. Contains (worded ps) (get_or (map f items) k [])) are (bad_word (map f items) k (inside f items k within) (ap is_empty at ∙ some));
         no_number = λ is. none (subst IsNumber at is);
       }
 
   pub line_at : (k : ℕ) (old new : List ℤ) → k < length items → AreNumbers (take k (map f items)) old → LineAnswers (f (get_or items k d)) true old new → AreNumbers (take (k + 1) (map f items)) new
   line_at k old new within are have =
       let at = sym (get_or-map f items k d [] within) in
-      subst (λ ls. AreNumbers ls new) (sym (next (map f items) k (inside k within))) (one_line (take k (map f items)) (get_or (map f items) k []) old new are (subst (λ l. HaveValues (pieces_of l) old new) at have))
+      subst (λ ls. AreNumbers ls new) (sym (next (map f items) k (inside f items k within))) (one_line (take k (map f items)) (get_or (map f items) k []) old new are (subst (λ l. HaveValues (pieces_of l) old new) at have))
 
   pub bad_line_at : (text : List ℕ) → map f items ≡ lines_of text → (k : ℕ) (read : List ℤ) → k < length items → AreNumbers (take k (map f items)) read → IsBad (f (get_or items k d)) → IsBadAt text (k + 1)
   bad_line_at text are k read within numbers bad = record {
     place = k;
-    within = subst (λ xs. k < length xs) are (inside k within);
+    within = subst (λ xs. k < length xs) are (inside f items k within);
     number = omega arith;
     is_bad = subst IsBad (sym (get_or-map f items k d [] within) ∙ ap (λ xs. get_or xs k []) are) bad;
     read = read;

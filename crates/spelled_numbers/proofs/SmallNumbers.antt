@@ -4,10 +4,10 @@ use Rattle.std.proofs.lemmas.Option.{slice_get-map, slice_get_within, get_or_fro
 use Rattle.c_tree.specs.declared.program.Program.{Program}
 use Rattle.c_tree.specs.Expressions.{Expr, Exprs, Number, Name, Element, Arg, Not, Minus, Binary, Place}
 use Rattle.c_tree.specs.Expressions as tree
-use Rattle.c_tree.specs.Bare.{Stmt, Stmts, Nil, Cons, Declare, Assign, Call, If, While, For, Return, Read, Print, Create, Join, InitMutex, InitCond, Lock, Unlock, Wait, Signal, Broadcast, Take, Give}
+use Rattle.c_tree.specs.Bare.{Stmt, Stmts, Nil, Cons, Declare, Assign, Call, If, While, For, Return, Read, Print, Create, Join, InitMutex, InitCond, Lock, TryLock, Unlock, Wait, Signal, Broadcast, Take, Give}
 use Rattle.c_tree.specs.Lined.{function_of, program_of, bare_function, bare_program}
 use Rattle.c_meaning.specs.Numbers.{HasSmallNumbers, HaveSmallNumbers}
-use Rattle.c_frames.specs.Everywhere.{Everywhere, EverywhereInside}
+use Rattle.c_tree.specs.Everywhere.{Everywhere, EverywhereInside}
 use Rattle.c_canonical.specs.Writable.{IsWritable, AreWritable, IsWritableIfAny, IsWritablePlace, IsWritableTarget, IsWritableStmt, AreWritableStmts, IsWritableFunction, IsWritableProgram}
 use Rattle.state_parts.specs.Small.{IsSmallIfAny, IsSmallPlace, IsSmallTarget, IsSmall, AreSmall}
 
@@ -54,8 +54,9 @@ statement_small (Join slot) w = tt
 statement_small (InitMutex place) w = place_small place w
 statement_small (InitCond place) w = place_small place w
 statement_small (Lock place) w = place_small place w
+statement_small (TryLock place taken busy) w = place_small place w.0
 statement_small (Unlock place) w = place_small place w
-statement_small (Wait cond mutex) w = (place_small cond w.0, place_small mutex w.1)
+statement_small (Wait cond mutex takes) w = (place_small cond w.0, place_small mutex w.1)
 statement_small (Signal cond) w = place_small cond w
 statement_small (Broadcast cond) w = place_small cond w
 statement_small (Take monitor) w = tt
@@ -70,6 +71,7 @@ mutual
   inside_small (If test then_arm else_arm) w = (statements_small then_arm w.1, statements_small else_arm w.2)
   inside_small (While test body) w = statements_small body w.1
   inside_small (For first_part test step body) w = (statements_small first_part w.0, statements_small step w.2, statements_small body w.3)
+  inside_small (TryLock place taken busy) w = (statements_small taken w.1, statements_small busy w.2)
   inside_small s w = tt
 
 -- ---- programs

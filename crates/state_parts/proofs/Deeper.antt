@@ -1,7 +1,7 @@
 -- What holds of each statement holds of those inside each.
 use Rattle.c_tree.specs.Bare as bare
 use Rattle.c_tree.specs.Bare.{Stmt, Stmts, Nil, Cons}
-use Rattle.c_frames.specs.Everywhere.{Everywhere, EverywhereInside}
+use Rattle.c_tree.specs.Everywhere.{Everywhere, EverywhereInside}
 use Rattle.state_parts.specs.First.{OfEach}
 
 mutual
@@ -13,6 +13,7 @@ mutual
   deeper_inside P (bare.If test then_arm else_arm) every = (deeper P then_arm every.0, deeper P else_arm every.1)
   deeper_inside P (bare.While test body) every = deeper P body every
   deeper_inside P (bare.For first_part test step body) every = (deeper P first_part every.0, deeper P step every.1, deeper P body every.2)
+  deeper_inside P (bare.TryLock place taken busy) every = (deeper P taken every.0, deeper P busy every.1)
   deeper_inside P (bare.Declare name e) every = tt
   deeper_inside P (bare.Assign target e) every = tt
   deeper_inside P (bare.Call target function args) every = tt
@@ -25,7 +26,7 @@ mutual
   deeper_inside P (bare.InitCond place) every = tt
   deeper_inside P (bare.Lock place) every = tt
   deeper_inside P (bare.Unlock place) every = tt
-  deeper_inside P (bare.Wait cond mutex) every = tt
+  deeper_inside P (bare.Wait cond mutex takes) every = tt
   deeper_inside P (bare.Signal cond) every = tt
   deeper_inside P (bare.Broadcast cond) every = tt
   deeper_inside P (bare.Take monitor) every = tt

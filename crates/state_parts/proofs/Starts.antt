@@ -1,6 +1,8 @@
 -- What a program starts with, seen through its lines.
-use Rattle.std.proofs.Common.{◌≡◌, None, ◌++◌, ℕ, zero, suc, List, [], ◌∷◌, length, map, flat_map, Some, refl, sym, ap, ◌∙◌, arith, subst}
-use Rattle.std.specs.Prelude.{slice_get, option_map, unwrap_or}
+use Rattle.std.proofs.Common.{◌≡◌, None, ◌++◌, ℕ, zero, suc, Bool, true, false, List, [], ◌∷◌, length, map, flat_map, Some, refl, sym, ap, ◌∙◌, arith, subst}
+use Rattle.std.specs.Prelude.{◌||◌, if◌then◌else◌, slice_get, option_map, unwrap_or, bytes_eq, find, Contains}
+use Rattle.std.specs.List.{list_any}
+use Rattle.std.proofs.lemmas.List.Elements.{Contains-push}
 use Rattle.std.specs.declared.option.Option.{Option}
 use Rattle.std.specs.FinMap as finite
 use Rattle.c_tree.specs.Bare as bare
@@ -8,7 +10,13 @@ use Rattle.c_tree.specs.Numbering.{function_named, main_name, main_body}
 use Rattle.c_meaning.specs.State as run
 use Rattle.c_meaning.specs.Calls.{passed}
 use Rattle.std.proofs.lemmas.Option.{same_Some}
-use Rattle.c_tree.specs.Lined.{bare_cell, bare_array}
+use Rattle.c_tree.specs.Lined as lined
+use Rattle.c_tree.specs.Lined.{bare_cell, bare_array, bare_function, program_of}
+use Rattle.c_rules.specs.Sites.{is_main}
+use Rattle.c_rules.specs.Threads.{no_main}
+use Rattle.c_rules.specs.declared.rule.Rule.TheVariants as rule
+use Rattle.c_meaning.specs.Shown.{shown}
+use Rattle.state_parts.specs.Accepted.{Accepted}
 use Rattle.c_tree.specs.declared.program.Program.{Program}
 use Rattle.c_frames.specs.declared.frames.Frame.{Frame}
 use Rattle.state_parts.specs.declared.tables.Tables.{Tables}
@@ -61,3 +69,27 @@ main_frame p x e = by (function_named p main_name) e
     by : (o : Option bare.Function) → Some x ≡ option_map (λ f. run.frame (passed f.params []) f.body) o → x ≡ run.frame finite.empty (unwrap_or (option_map (λ f. f.body) o) bare.Nil)
     by None e = absurd (cc e)
     by (Some f) e = same_Some x (run.frame (passed f.params []) f.body) e ∙ ap (λ l. run.frame l f.body) (nothing_passed f.params)
+
+-- an accepted program has a main
+none_is_main : (fs : List lined.Function) → find (λ f. bytes_eq f.name main_name) (map bare_function fs) ≡ None → list_any is_main fs ≡ false
+none_is_main [] none = refl
+none_is_main (f ∷ fs) none = by (bytes_eq f.name main_name) (none_is_main fs) none
+  where
+    by : (b : Bool) → (find (λ f. bytes_eq f.name main_name) (map bare_function fs) ≡ None → list_any is_main fs ≡ false)
+        → (if b then Some (bare_function f) else find (λ f. bytes_eq f.name main_name) (map bare_function fs)) ≡ None → (b || list_any is_main fs) ≡ false
+    by true later e = absurd (cc e)
+    by false later e = later e
+
+has_main : (p : Program) → Accepted p → function_named (shown p) main_name ≡ None → ⊥
+has_main p accepted none =
+    let line = (program_of p).end_line in
+    let broken : Contains (no_main (program_of p)) line =
+    subst (λ b. Contains (if b then [] else line ∷ []) line) (sym (none_is_main (program_of p).functions none)) (Contains-push [] line) in
+    accepted.keeps_rules rule.NoMain line broken
+
+pub main_is_made : (p : Program) → Accepted p → None ≡ option_map (λ f. run.frame (passed f.params []) f.body) (function_named (shown p) main_name) → ⊥
+main_is_made p accepted e = by (function_named (shown p) main_name) refl e
+  where
+    by : (o : Option bare.Function) → function_named (shown p) main_name ≡ o → None ≡ option_map (λ f. run.frame (passed f.params []) f.body) o → ⊥
+    by None is same = has_main p accepted is
+    by (Some f) is same = cc same

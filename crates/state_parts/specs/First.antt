@@ -3,7 +3,7 @@ use Rattle.std.specs.Prelude.{◌≡◌, Bool, Some, slice_get, ⊤}
 use Rattle.c_tree.specs.Bare.{Stmt, Stmts, Nil, Cons}
 use Rattle.c_tree.specs.declared.program.Program.{Program}
 use Rattle.c_meaning.specs.Shown.{shown_stmt}
-use Rattle.c_frames.specs.Everywhere.{EverywhereInside}
+use Rattle.c_tree.specs.Everywhere.{EverywhereInside}
 use Rattle.c_frames.specs.Names.{SetsAmong}
 use Rattle.c_frames.specs.Positions.{first_of}
 use Rattle.c_frames.specs.declared.frames.Frame.{Frame}

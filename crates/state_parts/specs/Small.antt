@@ -3,7 +3,7 @@ use Rattle.std.specs.Prelude.{◌≡◌, ℕ, Some, None, ⊤, slice_get}
 use Rattle.c_tree.specs.declared.program.Program.{Program}
 use Rattle.c_tree.specs.declared.program.Function.{Function}
 use Rattle.c_frames.specs.Names.{shown_function}
-use Rattle.c_frames.specs.Everywhere.{Everywhere}
+use Rattle.c_tree.specs.Everywhere.{Everywhere}
 use Rattle.std.specs.declared.option.Option.{Option}
 use Rattle.c_tree.specs.Expressions.{Expr, Place}
 use Rattle.c_tree.specs.Bare as bare
@@ -37,8 +37,9 @@ IsSmall (bare.Join slot) = ⊤
 IsSmall (bare.InitMutex place) = IsSmallPlace place
 IsSmall (bare.InitCond place) = IsSmallPlace place
 IsSmall (bare.Lock place) = IsSmallPlace place
+IsSmall (bare.TryLock place taken busy) = IsSmallPlace place
 IsSmall (bare.Unlock place) = IsSmallPlace place
-IsSmall (bare.Wait cond mutex) = IsSmallPlace cond × IsSmallPlace mutex
+IsSmall (bare.Wait cond mutex takes) = IsSmallPlace cond × IsSmallPlace mutex
 IsSmall (bare.Signal cond) = IsSmallPlace cond
 IsSmall (bare.Broadcast cond) = IsSmallPlace cond
 IsSmall (bare.Take monitor) = ⊤

@@ -1,5 +1,5 @@
 -- What a statement is about.
-use Rattle.std.specs.Prelude.{ℕ, Some, None}
+use Rattle.std.specs.Prelude.{ℕ, List, [], Some, None}
 use Rattle.std.specs.declared.option.Option.{Option}
 use Rattle.c_tree.specs.Expressions.{Place}
 use Rattle.c_tree.specs.Bare as bare
@@ -14,3 +14,8 @@ lock_of s = None
 abbrev pub take_of : Stmt → Option ℕ
 take_of (bare.Take monitor) = Some monitor
 take_of s = None
+
+-- the monitors of which a wait takes tokens
+abbrev pub takes_in : Stmt → List ℕ
+takes_in (bare.Wait cond place takes) = takes
+takes_in s = []

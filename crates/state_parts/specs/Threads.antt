@@ -1,11 +1,12 @@
 -- What the threads of a state stand for.
-use Rattle.std.specs.Prelude.{List, map, reverse, Some, None, slice_get}
+use Rattle.std.specs.Prelude.{List, map, drop, reverse, Some, None, slice_get}
 use Rattle.std.specs.declared.option.Option.{Option}
 use Rattle.std.specs.FinMap as finite
 use Rattle.c_tree.specs.Bare as bare
 use Rattle.c_tree.specs.declared.program.Program as tree
 use Rattle.c_tree.specs.declared.program.Function as function
 use Rattle.c_meaning.specs.State as run
+use Rattle.c_meaning.specs.Waits.{takes_of}
 use Rattle.c_frames.specs.Names.{shown_function}
 use Rattle.c_frames.specs.Frames.{frame_of}
 use Rattle.c_frames.specs.declared.frames.Frame.{Frame}
@@ -32,7 +33,7 @@ abbrev pub status_with : Doing → List run.Frame → run.Status
 status_with NotBegun frames = run.NotBegun
 status_with Running frames = run.Running frames
 status_with (Waiting condition mutex) frames = run.Waiting condition mutex frames
-status_with (Reacquiring mutex) frames = run.Reacquiring mutex frames
+status_with (Reacquiring mutex taken) frames = run.Reacquiring mutex (drop taken (takes_of frames)) frames
 status_with Ended frames = run.Ended
 
 abbrev pub status_of : tree.Program → Tables → Thread → run.Status

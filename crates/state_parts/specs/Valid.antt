@@ -8,7 +8,7 @@ use Rattle.c_frames.specs.Frames.{IsFrame}
 use Rattle.c_frames.specs.declared.frames.Frame.{Frame}
 use Rattle.c_frames.specs.declared.names.LocalNames.{LocalNames}
 use Rattle.c_places.specs.Numbers.{AreNumbersOf}
-use Rattle.c_frames.specs.Everywhere.{Everywhere}
+use Rattle.c_tree.specs.Everywhere.{Everywhere}
 use Rattle.state_parts.specs.Small.{IsSmall}
 use Rattle.state_parts.specs.declared.threads.Thread.{Thread}
 use Rattle.state_parts.specs.declared.tables.Tables.{Tables}

@@ -12,12 +12,12 @@ abbrev pub mutex_waiting : ℕ → Doing → Option ℕ
 mutex_waiting condition (Waiting c mutex) = if c == condition then Some mutex else None
 mutex_waiting condition NotBegun = None
 mutex_waiting condition Running = None
-mutex_waiting condition (Reacquiring mutex) = None
+mutex_waiting condition (Reacquiring mutex taken) = None
 mutex_waiting condition Ended = None
 
 -- what a thread does after a broadcast on a condition
 abbrev pub woken_with : Doing → Option ℕ → Doing
-woken_with doing (Some mutex) = Reacquiring mutex
+woken_with doing (Some mutex) = Reacquiring mutex 0
 woken_with doing None = doing
 
 abbrev pub doing_awakened : ℕ → Doing → Doing
@@ -31,8 +31,8 @@ has_ended Ended = true
 has_ended NotBegun = false
 has_ended Running = false
 has_ended (Waiting c mutex) = false
-has_ended (Reacquiring mutex) = false
+has_ended (Reacquiring mutex taken) = false
 
 abbrev pub is_wait : Stmt → Bool
-is_wait (bare.Wait cond place) = true
+is_wait (bare.Wait cond place takes) = true
 is_wait s = false

@@ -127,15 +127,16 @@ impl Tables {
     }
 }
 
-/// The threads as they start: main alone runs. The one error is want of memory; an accepted program has a main.
+/// The threads as they start: main alone runs. The one error is want of memory.
 pub fn first_threads(alloc: Global, p: &Program, tables: &Tables) -> Result<Vec<Thread>, AllocError>
-    requires { AreTablesOf p.now tables.now }
+    requires accepted { Accepted p.now }
+    requires tables { AreTablesOf p.now tables.now }
     ensures are { IfOk result (λ threads. map (status_of p.now tables.now) threads.items
         ≡ run.Running (run.frame finite.empty (main_body (shown p.now)) ∷ []) ∷ replicate (length (creations (shown p.now))) run.NotBegun) }
     ensures valid { IfOk result (λ threads. AreThreadsIn p.now tables.now threads.items) }
 {
     let Some(frame) = make_frame(alloc, p, tables, b"main", &[])? else {
-        return Err(AllocError);
+        unreachable!();
     };
     let mut frames = Vec::new(alloc);
     frames.push(frame)?;

@@ -2,7 +2,7 @@
 ghost use Rattle.std.specs.Prelude.{◌≡◌, option_map};
 ghost use Rattle.c_tree.specs.Expressions.{place_of};
 ghost use Rattle.c_meaning.specs.Shown.{shown_stmt};
-ghost use Rattle.state_parts.specs.Statements.{lock_of, take_of};
+ghost use Rattle.state_parts.specs.Statements.{lock_of, take_of, takes_in};
 ghost use Rattle.state_parts.specs.Waiting.{is_wait};
 
 use c_tree::{Act, Place, Stmt};
@@ -24,6 +24,16 @@ pub fn take_of(s: &Stmt) -> Option<u32>
     match &s.act {
         Act::Take { monitor } => Some(*monitor),
         _ => None,
+    }
+}
+
+/// The monitors of which a wait takes tokens.
+pub fn takes_in(s: &Stmt) -> &[u32]
+    ensures { result.now ≡ takes_in (shown_stmt s.now) }
+{
+    match &s.act {
+        Act::Wait { takes, .. } => takes.as_slice(),
+        _ => &[],
     }
 }
 

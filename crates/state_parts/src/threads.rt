@@ -30,10 +30,12 @@ pub enum Doing {
         /// The mutex.
         mutex: u32,
     },
-    /// It was woken, and waits for its mutex.
+    /// It was woken, takes the tokens of its wait, and then its mutex.
     Reacquiring {
         /// The mutex.
         mutex: u32,
+        /// How many of the tokens it has taken.
+        taken: usize,
     },
     /// It has ended.
     Ended,

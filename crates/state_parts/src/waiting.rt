@@ -54,12 +54,12 @@ pub fn awakened(doing: Doing, condition: u128) -> Doing
     ensures { result ≡ doing_awakened condition doing }
 {
     match mutex_waiting(doing, condition) {
-        Some(mutex) => Doing::Reacquiring { mutex },
+        Some(mutex) => Doing::Reacquiring { mutex, taken: 0 },
         None => doing,
     }
 }
 
-/// All threads that wait on a condition acquire their mutexes again.
+/// All threads that wait on a condition are woken, and have taken none of their tokens.
 pub fn awaken_all(threads: &mut [Thread], condition: u128)
     ensures { threads.new ≡ map (thread_awakened condition) threads.old }
 {

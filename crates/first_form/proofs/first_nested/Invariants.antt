@@ -1,5 +1,5 @@
 use Rattle.std.proofs.Common.{◌≡◌, drop, map}
-use Rattle.c_tree.specs.FirstForm.{first_line}
+use Rattle.first_form.specs.FirstForm.{first_line}
 use Rattle.c_tree.specs.Lined.{function_of}
 use Rattle.first_form.specs.Shown.{shown}
 use Rattle.first_form.proofs.first_nested.Given as goal

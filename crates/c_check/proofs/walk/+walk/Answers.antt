@@ -1,12 +1,12 @@
 use Rattle.std.proofs.Common.{rules, ap, ◌∙◌}
-use Rattle.c_tree.specs.Expressions.{expr_of, value_of}
+use Rattle.c_tree.specs.Expressions.{expr_of, value_of, place_of}
 use Rattle.c_tree.specs.Lined.{stmt_of, stmts_of}
 use Rattle.c_names.specs.Tables.{in_scope}
 use Rattle.c_acts.specs.First.{noted_all}
 use Rattle.c_acts.specs.Uses.{around}
 use Rattle.c_acts.specs.Acts.{declare_breaks, entered}
-use Rattle.c_check.proofs.Shown.{declare_of, if_of, while_of, for_of}
-use Rattle.c_check.proofs.Walks.{declare_stmt, declare_scope, if_stmt, while_stmt, for_stmt, same_scope, list_turn, scope_turn, scope_end, still_there}
+use Rattle.c_check.proofs.Shown.{declare_of, if_of, while_of, for_of, try_of}
+use Rattle.c_check.proofs.Walks.{declare_stmt, declare_scope, if_stmt, try_stmt, while_stmt, for_stmt, same_scope, list_turn, scope_turn, scope_end, still_there}
 use Rattle.c_check.proofs.walk.+walk.Goals as goal
 
 pub check_nest-returns-in_ok-check_list-in-If-2-clause-breaks : goal.check_nest-returns-in_ok-check_list-in-If-2-clause-breaks
@@ -33,6 +33,15 @@ check_nest-returns-in_ok-check_list-in-For-2-clause-breaks t c =
     (for_of c.args.s.now c.in-For.part c.in-For.test c.in-For.step c.in-For.body c.in-For.is)
     (search rules) (same_scope _ _ c.in_ok-check_list-in-For.ensures.scoped) (same_scope _ _ c.in_ok-check_list-in-For-2.ensures.scoped)
     (search rules) (search rules) (search rules) (search rules)
+
+pub check_nest-returns-in_ok-check_list-in-TryLock-2-clause-breaks : goal.check_nest-returns-in_ok-check_list-in-TryLock-2-clause-breaks
+check_nest-returns-in_ok-check_list-in-TryLock-2-clause-breaks t c =
+    let k1 = c.in_ok-check_list-in-TryLock.ensures.scoped in
+    let k2 = c.in_ok-check_list-in-TryLock-2.ensures.scoped in
+    try_stmt (around c.args.at.now) (in_scope c.args.scope.now) (in_scope c.check_list-in-TryLock.new.scope) (in_scope c.check_list-in-TryLock-2.new.scope) c.args.late
+    c.args.first.now c.check_list-in-TryLock.new.first c.check_list-in-TryLock-2.new.first c.check_place.new.first (stmt_of c.args.s.now) c.args.s.now.line
+    (place_of c.in-TryLock.place) (stmts_of c.in-TryLock.taken) (stmts_of c.in-TryLock.busy) (try_of c.args.s.now c.in-TryLock.place c.in-TryLock.taken c.in-TryLock.busy c.in-TryLock.is)
+    (same_scope _ _ k1) (same_scope _ _ (k2 ∙ k1)) (search rules) (search rules) (search rules)
 
 pub check_open-loop-s-preserved : goal.check_open-loop-s-preserved
 check_open-loop-s-preserved t c = record {

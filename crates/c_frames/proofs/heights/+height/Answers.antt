@@ -2,7 +2,7 @@ use Rattle.std.proofs.Common.{◌≡◌, ◌+◌, ℕ, max, IfOk, subst, sym, ap
 use Rattle.c_frames.specs.Heights.{height, height_inside}
 use Rattle.c_meaning.specs.Shown.{shown_stmt, shown_body}
 use Rattle.c_frames.proofs.Lower.{next_height, whole_height}
-use Rattle.c_frames.proofs.Shapes.{if_is, while_is, for_is}
+use Rattle.c_frames.proofs.Shapes.{if_is, while_is, for_is, try_lock_is}
 use Rattle.c_frames.proofs.heights.+height.Goals as goal
 
 pub height-loop-s-init : goal.height-loop-s-init
@@ -36,4 +36,11 @@ height_inside-returns-in_ok-height-in-For-2 t c =
     let shape = ap height_inside (for_is c.args.s.now c.in-For.first c.in-For.test c.in-For.step c.in-For.body c.in-For.is) in
     let first : c.in_ok-height-in-For.field-0 ≡ height (shown_body c.in-For.step) = c.in_ok-height-in-For.ensures ∙ ap (λ ss. height (shown_body ss)) c.as_slice-in-For.ensures in
     let second : c.in_ok-height-in-For-2.field-0 ≡ height (shown_body c.in-For.body) = c.in_ok-height-in-For-2.ensures ∙ ap (λ ss. height (shown_body ss)) c.as_slice-in-For-2.ensures in
+    omega (arith, shape, first, second)
+
+pub height_inside-returns-in_ok-height-in-TryLock-2 : goal.height_inside-returns-in_ok-height-in-TryLock-2
+height_inside-returns-in_ok-height-in-TryLock-2 t c =
+    let shape = ap height_inside (try_lock_is c.args.s.now c.in-TryLock.place c.in-TryLock.taken c.in-TryLock.busy c.in-TryLock.is) in
+    let first : c.in_ok-height-in-TryLock.field-0 ≡ height (shown_body c.in-TryLock.taken) = c.in_ok-height-in-TryLock.ensures ∙ ap (λ ss. height (shown_body ss)) c.as_slice-in-TryLock.ensures in
+    let second : c.in_ok-height-in-TryLock-2.field-0 ≡ height (shown_body c.in-TryLock.busy) = c.in_ok-height-in-TryLock-2.ensures ∙ ap (λ ss. height (shown_body ss)) c.as_slice-in-TryLock-2.ensures in
     omega (arith, shape, first, second)

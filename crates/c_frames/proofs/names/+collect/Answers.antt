@@ -5,7 +5,7 @@ use Rattle.c_tree.specs.declared.stmt.Stmt as declared
 use Rattle.c_frames.specs.Names.{is_among, is_set, is_set_inside, key_texts}
 use Rattle.c_meaning.specs.Shown.{shown_body}
 use Rattle.c_frames.proofs.Collecting.{next_target, all_targets, two_lists, three_lists}
-use Rattle.c_frames.proofs.Shapes.{if_is, while_is, for_is}
+use Rattle.c_frames.proofs.Shapes.{if_is, while_is, for_is, try_lock_is}
 use Rattle.c_frames.proofs.names.+collect.Goals as goal
 
 -- what a list adds, where it is seen by another name
@@ -38,6 +38,15 @@ add_inside-returns-in_ok-add_targets-in-For-2 t c = on_ok_weaker c.add_targets-i
     (listed one two q _ _ c.as_slice-in-For-2.ensures (c.in_ok-add_targets-in-For-2.ensures q))
     (listed two three q _ _ c.as_slice-in-For-3.ensures (grown q))
     ∙ ap (λ s. before || is_set_inside q s) (sym (for_is c.args.s.now c.in-For.first c.in-For.test c.in-For.step c.in-For.body c.in-For.is))) c.add_targets-in-For-3.ensures
+
+pub add_inside-returns-in_ok-add_targets-in-TryLock : goal.add_inside-returns-in_ok-add_targets-in-TryLock
+add_inside-returns-in_ok-add_targets-in-TryLock t c = on_ok_weaker c.add_targets-in-TryLock-2.result (λ grown q.
+    let before = is_among (key_texts c.args.names.now) q in
+    let one = is_among (key_texts c.add_targets-in-TryLock.new.names) q in
+    let two = is_among (key_texts c.add_targets-in-TryLock-2.new.names) q in
+    two_lists q before one two (shown_body c.in-TryLock.taken) (shown_body c.in-TryLock.busy)
+    (listed before one q _ _ c.as_slice-in-TryLock.ensures (c.in_ok-add_targets-in-TryLock.ensures q)) (listed one two q _ _ c.as_slice-in-TryLock-2.ensures (grown q))
+    ∙ ap (λ s. before || is_set_inside q s) (sym (try_lock_is c.args.s.now c.in-TryLock.place c.in-TryLock.taken c.in-TryLock.busy c.in-TryLock.is))) c.add_targets-in-TryLock-2.ensures
 
 pub add_targets-loop-s-init : goal.add_targets-loop-s-init
 add_targets-loop-s-init t c q = refl

@@ -1,13 +1,13 @@
 use Rattle.std.proofs.Common.{◌++◌, ◌∙◌, codes, refl, sym, arith, rules}
 use Rattle.std.proofs.lemmas.Grind.{common_steps}
 use Rattle.c_layout.specs.Layout.{text}
-use Rattle.c_tree.specs.Expressions.{expr_of}
+use Rattle.c_tree.specs.Expressions.{expr_of, place_of}
 use Rattle.c_tree.specs.Lined.{stmt_of, stmts_of, bare_stmt, bare_stmts}
 use Rattle.c_canonical.specs.Statements.{block, deeper, statement, statements, otherwise}
 use Rattle.c_print.proofs.Chains.{chain2}
 use Rattle.c_print.proofs.Loops.{ended}
-use Rattle.c_print.proofs.BlockTexts.{block_text, if_text, while_text, for_text, chained, braced, lines_of, line_text}
-use Rattle.c_print.proofs.Shown.{if_of, while_of, for_of}
+use Rattle.c_print.proofs.BlockTexts.{block_text, if_text, try_lock_text, while_text, for_text, chained, braced, lines_of, line_text}
+use Rattle.c_print.proofs.Shown.{if_of, try_lock_of, while_of, for_of}
 use Rattle.c_print.proofs.statements.+statement.Goals as goal
 
 pub block-returns : goal.block-returns
@@ -35,6 +35,12 @@ statement-returns-in_ok-otherwise-in-If t c =
     if_text c.args.out.now.items c.head.new.out.items c.block.new.out.items c.otherwise.new.out.items c.args.margin.now c.args.kind
     (bare_stmt (stmt_of c.args.s.now)) (expr_of c.in-If.test) (bare_stmts (stmts_of c.in-If.then_arm)) (bare_stmts (stmts_of c.in-If.else_arm))
     (if_of c.args.s.now c.in-If.test c.in-If.then_arm c.in-If.else_arm c.in-If.is) (first_of (search rules, grind (arith, common_steps))) (first_of (search rules, grind (arith, common_steps))) (first_of (search rules, grind (arith, common_steps)))
+
+pub statement-returns-in_ok-otherwise-in-TryLock : goal.statement-returns-in_ok-otherwise-in-TryLock
+statement-returns-in_ok-otherwise-in-TryLock t c =
+    try_lock_text c.args.out.now.items c.try_head.new.out.items c.block-in-TryLock.new.out.items c.otherwise-in-TryLock.new.out.items c.args.margin.now c.args.kind
+    (bare_stmt (stmt_of c.args.s.now)) (place_of c.in-TryLock.place) (bare_stmts (stmts_of c.in-TryLock.taken)) (bare_stmts (stmts_of c.in-TryLock.busy))
+    (try_lock_of c.args.s.now c.in-TryLock.place c.in-TryLock.taken c.in-TryLock.busy c.in-TryLock.is) (first_of (search rules, grind (arith, common_steps))) (first_of (search rules, grind (arith, common_steps))) (first_of (search rules, grind (arith, common_steps)))
 
 pub statement-returns-in_ok-block-in-While : goal.statement-returns-in_ok-block-in-While
 statement-returns-in_ok-block-in-While t c =

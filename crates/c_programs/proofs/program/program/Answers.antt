@@ -1,6 +1,4 @@
 use Rattle.std.proofs.Common.{arith}
-use Rattle.c_tree.specs.Lined.{program_of}
-use Rattle.c_expressions.specs.Gives.{tall_of}
 use Rattle.c_programs.specs.Gives.{views}
 use Rattle.c_programs.proofs.Shorter.{less_first}
 use Rattle.c_programs.proofs.program.program.Goals as goal

@@ -2,7 +2,7 @@ use Rattle.std.proofs.Common.{◌∙◌, sym, ℕ, List, not, rules, tests}
 use Rattle.std.proofs.lemmas.Iterator.{YieldsList-from_slice}
 use Rattle.std.proofs.lemmas.Iterator.Search.{all_from_yields_List}
 use Rattle.std.proofs.lemmas.List.Folds.{list_all-map}
-use Rattle.c_tree.specs.FirstForm.{is_reserved}
+use Rattle.c_rules.specs.Names.{is_reserved}
 use Rattle.first_form.proofs.form.are_free.Goals as goal
 use denote.Ref.{Bor}
 

@@ -4,7 +4,7 @@ use Rattle.std.proofs.lemmas.Iterator.Search.{all_from_yields_List}
 use Rattle.std.proofs.lemmas.List.Folds.{list_all-map}
 use Rattle.c_tree.specs.declared.program.Object.{Object}
 use Rattle.c_tree.specs.Lined.{bare_object}
-use Rattle.c_tree.specs.FirstForm.{is_ready_mutex}
+use Rattle.first_form.specs.FirstForm.{is_ready_mutex}
 use Rattle.first_form.proofs.form.are_ready.Goals as goal
 
 pub returns : goal.returns

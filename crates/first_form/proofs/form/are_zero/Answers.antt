@@ -4,7 +4,7 @@ use Rattle.std.proofs.lemmas.Iterator.Search.{all_from_yields_List}
 use Rattle.std.proofs.lemmas.List.Folds.{list_all-map}
 use Rattle.c_tree.specs.declared.program.Cell.{Cell}
 use Rattle.c_tree.specs.Lined.{bare_cell}
-use Rattle.c_tree.specs.FirstForm.{is_zero_int}
+use Rattle.first_form.specs.FirstForm.{is_zero_int}
 use Rattle.first_form.proofs.form.are_zero.Goals as goal
 
 pub returns : goal.returns

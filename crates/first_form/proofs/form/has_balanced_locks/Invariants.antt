@@ -1,6 +1,6 @@
 use Rattle.std.proofs.Common.{◌≡◌, [], drop, map}
 use Rattle.std.specs.List.{list_all}
-use Rattle.c_tree.specs.FirstForm.{is_balanced}
+use Rattle.first_form.specs.FirstForm.{is_balanced}
 use Rattle.c_tree.specs.Lined.{function_of, bare_function}
 use Rattle.first_form.specs.Shown.{shown}
 use Rattle.first_form.proofs.form.has_balanced_locks.Given as goal

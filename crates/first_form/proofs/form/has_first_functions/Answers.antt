@@ -4,7 +4,7 @@ use Rattle.std.proofs.lemmas.Iterator.{YieldsList-from_slice}
 use Rattle.std.proofs.lemmas.Iterator.Search.{all_from_yields_List}
 use Rattle.c_tree.specs.declared.program.Function.{Function}
 use Rattle.c_tree.specs.Lined.{bare_function, function_of}
-use Rattle.c_tree.specs.FirstForm.{has_first_functions, is_thread, is_main}
+use Rattle.first_form.specs.FirstForm.{has_first_functions, is_thread, is_main}
 use Rattle.first_form.specs.Shown.{shown}
 use Rattle.first_form.proofs.Bodies.{when_each, unless_each}
 use Rattle.first_form.proofs.Heads.{functions_split}

@@ -3,7 +3,7 @@ use Rattle.std.specs.List.{list_all}
 use Rattle.std.proofs.lemmas.Bool.{le-leb}
 use Rattle.std.proofs.lemmas.Iterator.{YieldsList-from_slice}
 use Rattle.std.proofs.lemmas.Iterator.Search.{all_from_yields_List}
-use Rattle.c_tree.specs.FirstForm.{is_reserved}
+use Rattle.c_rules.specs.Names.{is_reserved}
 use Rattle.first_form.specs.Sets.{knows}
 use Rattle.first_form.proofs.Heads.{when_true}
 use Rattle.first_form.proofs.form.has_good_head.Goals as goal

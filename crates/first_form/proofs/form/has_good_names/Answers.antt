@@ -1,7 +1,8 @@
 use Rattle.std.proofs.Common.{◌≡◌, ◌∙◌, ◌&&◌, not, length, nat_le, sym, ap, is_some, Some}
 use Rattle.std.specs.List.{list_all}
 use Rattle.c_tree.specs.declared.program.Function.{Function}
-use Rattle.c_tree.specs.FirstForm.{mentions, all_differ, is_reserved}
+use Rattle.c_rules.specs.Names.{mentions, is_reserved}
+use Rattle.first_form.specs.FirstForm.{all_differ}
 use Rattle.first_form.specs.Sets.{texts, knows, Knows}
 use Rattle.first_form.proofs.Heads.{good_names}
 use Rattle.first_form.proofs.form.has_good_names.Goals as goal

@@ -1,5 +1,5 @@
 use Rattle.std.proofs.Common.{◌≡◌, [], drop}
-use Rattle.c_tree.specs.FirstForm.{is_balanced}
+use Rattle.first_form.specs.FirstForm.{is_balanced}
 use Rattle.first_form.specs.Shown.{shown, shown_body}
 use Rattle.first_form.specs.Sets.{texts}
 use Rattle.first_form.specs.Locks.{AreHeld, above}

@@ -1,5 +1,5 @@
 use Rattle.std.proofs.Common.{◌≡◌, [], drop}
-use Rattle.c_tree.specs.FirstForm.{nested_line}
+use Rattle.first_form.specs.FirstForm.{nested_line}
 use Rattle.c_tree.specs.Lined.{stmts_of}
 use Rattle.first_form.specs.Shown.{shown}
 use Rattle.first_form.specs.Sets.{texts}

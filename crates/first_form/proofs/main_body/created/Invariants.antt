@@ -1,5 +1,5 @@
 use Rattle.std.proofs.Common.{◌≡◌, ◌++◌, drop}
-use Rattle.c_tree.specs.FirstForm.{created}
+use Rattle.first_form.specs.FirstForm.{created}
 use Rattle.first_form.specs.Shown.{shown_body}
 use Rattle.first_form.proofs.main_body.created.Given as goal
 

@@ -1,5 +1,5 @@
 use Rattle.std.proofs.Common.{◌≡◌, length}
-use Rattle.c_tree.specs.FirstForm.{is_main_body}
+use Rattle.first_form.specs.FirstForm.{is_main_body}
 use Rattle.first_form.specs.Shown.{shown, shown_body}
 use Rattle.first_form.proofs.main_body.is_main_body.Given as goal
 

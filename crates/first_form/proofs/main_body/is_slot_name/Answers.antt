@@ -2,7 +2,7 @@ use Rattle.std.proofs.Common.{◌∙◌, sym, ap, bytes_eq, rules, tests}
 use Rattle.std.proofs.lemmas.Iterator.{YieldsList-from_slice}
 use Rattle.std.proofs.lemmas.Iterator.Search.{any_from_yields_List}
 use Rattle.c_tree.specs.declared.program.Slot.{Slot}
-use Rattle.c_tree.specs.FirstForm.{mentions}
+use Rattle.c_rules.specs.Names.{mentions}
 use Rattle.first_form.proofs.Lists.{mentions_of}
 use Rattle.first_form.proofs.OuterNames.{slots_of_shown}
 use Rattle.first_form.proofs.main_body.is_slot_name.Goals as goal

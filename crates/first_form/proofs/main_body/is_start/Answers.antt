@@ -2,7 +2,7 @@ use Rattle.std.proofs.Common.{◌∙◌, ◌&&◌, sym, bytes_eq, rules, tests}
 use Rattle.std.proofs.lemmas.Iterator.{YieldsList-from_slice}
 use Rattle.std.proofs.lemmas.Iterator.Search.{any_from_yields_List}
 use Rattle.c_tree.specs.declared.program.Function.{Function}
-use Rattle.c_tree.specs.FirstForm.{is_thread_kind}
+use Rattle.first_form.specs.FirstForm.{is_thread_kind}
 use Rattle.first_form.proofs.OuterNames.{starts_shown}
 use Rattle.first_form.proofs.main_body.is_start.Goals as goal
 

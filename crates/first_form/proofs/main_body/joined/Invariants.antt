@@ -1,5 +1,5 @@
 use Rattle.std.proofs.Common.{◌≡◌, ◌++◌, drop}
-use Rattle.c_tree.specs.FirstForm.{joined}
+use Rattle.first_form.specs.FirstForm.{joined}
 use Rattle.first_form.specs.Shown.{shown_body}
 use Rattle.first_form.proofs.main_body.joined.Given as goal
 

@@ -1,5 +1,5 @@
 use Rattle.std.proofs.Common.{◌≡◌, length}
-use Rattle.c_tree.specs.FirstForm.{numbers_differ}
+use Rattle.first_form.specs.FirstForm.{numbers_differ}
 use Rattle.first_form.proofs.main_body.numbers_differ.Given as goal
 
 -- what is left differs just where all do

@@ -2,7 +2,7 @@ use Rattle.std.proofs.Common.{◌≡◌, ◌∙◌, List, [], ◌∷◌, map, So
 use Rattle.std.specs.Prelude.{slice_get, unwrap_or}
 use Rattle.c_tree.specs.declared.program.Slot.{Slot}
 use Rattle.c_tree.specs.Lined.{bare_slot}
-use Rattle.c_tree.specs.FirstForm.{slot_len}
+use Rattle.first_form.specs.FirstForm.{slot_len}
 use Rattle.first_form.proofs.main_body.threads_len.Goals as goal
 
 is_some : (slots : List Slot) (s : Slot) → slice_get slots 0 ≡ Some s → slot_len (map bare_slot slots) ≡ unwrap_or s.len 0

@@ -1,5 +1,5 @@
 use Rattle.std.proofs.Common.{◌≡◌, take, true}
-use Rattle.c_tree.specs.FirstForm.{all_differ}
+use Rattle.first_form.specs.FirstForm.{all_differ}
 use Rattle.first_form.specs.Sets.{texts, Knows}
 use Rattle.first_form.proofs.names.distinct_names.Given as goal
 

@@ -1,5 +1,5 @@
 use Rattle.std.proofs.Common.{true, ap, ◌∙◌}
-use Rattle.c_meaning.specs.Branching.{before}
+use Rattle.c_tree.specs.Bare.{before}
 use Rattle.c_frames.specs.Positions.{next_in, behind}
 use Rattle.c_frames.proofs.Leaving.{next_here}
 use Rattle.c_frames.proofs.positions.Standing.begin.Goals as goal

@@ -2,7 +2,7 @@ use Rattle.std.proofs.Common.{◌≡◌, ◌<◌, ◌+◌, suc, true, false, ref
 use Rattle.std.proofs.lemmas.Option.{slice_get_past}
 use Rattle.c_frames.specs.declared.positions.Part.TheVariants as parts
 use Rattle.c_frames.specs.declared.positions.Entered.{Entered}
-use Rattle.c_meaning.specs.Branching.{before}
+use Rattle.c_tree.specs.Bare.{before}
 use Rattle.c_meaning.specs.Shown.{shown_body}
 use Rattle.c_tree.specs.Bare.{Stmts}
 use Rattle.c_frames.specs.Heights.{height}

@@ -1,6 +1,6 @@
 use Rattle.std.proofs.Common.{◌≡◌, [], ◌∷◌, ◌++◌, ◌+◌, subst, sym, ap, ◌∙◌, arith}
 use Rattle.c_tree.specs.Bare.{Nil}
-use Rattle.c_meaning.specs.Branching.{before}
+use Rattle.c_tree.specs.Bare.{before}
 use Rattle.c_meaning.specs.Shown.{shown_body}
 use Rattle.c_frames.specs.Positions.{from, left, inside, behind, todo, weight, weight_of, Descends}
 use Rattle.c_frames.proofs.Lower.{descends_front}

@@ -10,7 +10,7 @@ use Rattle.c_steps.specs.Model.{state_of}
 use Rattle.c_steps.specs.Standing.{does}
 use Rattle.c_steps.specs.Setting.{MaySets}
 use Rattle.c_steps.proofs.Rows.{carried, first_stays, no_for_asks}
-use Rattle.c_steps.proofs.Shown.{declare_is, assign_is, call_is, if_is, while_is, return_is, read_is, print_is, create_is, join_is, init_mutex_is, init_cond_is, lock_is, unlock_is, wait_is, signal_is, broadcast_is, take_is, give_is, for_is}
+use Rattle.c_steps.proofs.Shown.{declare_is, assign_is, call_is, if_is, while_is, return_is, read_is, print_is, create_is, join_is, init_mutex_is, init_cond_is, lock_is, try_lock_is, unlock_is, wait_is, signal_is, broadcast_is, take_is, give_is, for_is}
 use Rattle.c_steps.proofs.state.State.act.Goals as goal
 
 pub go_round-requires-clause-may : goal.go_round-requires-clause-may
@@ -117,6 +117,13 @@ returns-in-Lock-clause-is c =
     carried p s c.args.t (first_of c.args.begun (shown_stmt c.args.s.now)) act c.lock.result (state_of p s) (state_of p c.lock.new.self)
     (ap (first_of c.args.begun) (lock_is c.args.s.now c.in-Lock.place c.in-Lock.is) ∙ first_stays act tt c.args.begun) c.lock.ensures.is
 
+pub returns-in-TryLock-clause-is : goal.returns-in-TryLock-clause-is
+returns-in-TryLock-clause-is c =
+    let p = c.args.p.now in let s = c.args.self.now in
+    let act : Stmt = bare.TryLock (place_of c.in-TryLock.place) (shown_body c.in-TryLock.taken) (shown_body c.in-TryLock.busy) in
+    carried p s c.args.t (first_of c.args.begun (shown_stmt c.args.s.now)) act c.try_lock.result (state_of p s) (state_of p c.try_lock.new.self)
+    (ap (first_of c.args.begun) (try_lock_is c.args.s.now c.in-TryLock.place c.in-TryLock.taken c.in-TryLock.busy c.in-TryLock.is) ∙ first_stays act tt c.args.begun) (c.try_lock.ensures.is (shown_body c.in-TryLock.taken) (shown_body c.in-TryLock.busy))
+
 pub returns-in-Unlock-clause-is : goal.returns-in-Unlock-clause-is
 returns-in-Unlock-clause-is c =
     let p = c.args.p.now in let s = c.args.self.now in
@@ -127,9 +134,9 @@ returns-in-Unlock-clause-is c =
 pub returns-in-Wait-clause-is : goal.returns-in-Wait-clause-is
 returns-in-Wait-clause-is c =
     let p = c.args.p.now in let s = c.args.self.now in
-    let act : Stmt = bare.Wait (place_of c.in-Wait.cond) (place_of c.in-Wait.mutex) in
+    let act : Stmt = bare.Wait (place_of c.in-Wait.cond) (place_of c.in-Wait.mutex) c.in-Wait.takes in
     carried p s c.args.t (first_of c.args.begun (shown_stmt c.args.s.now)) act c.wait.result (state_of p s) (state_of p c.wait.new.self)
-    (ap (first_of c.args.begun) (wait_is c.args.s.now c.in-Wait.cond c.in-Wait.mutex c.in-Wait.is) ∙ first_stays act tt c.args.begun) c.wait.ensures.is
+    (ap (first_of c.args.begun) (wait_is c.args.s.now c.in-Wait.cond c.in-Wait.mutex c.in-Wait.takes c.in-Wait.is) ∙ first_stays act tt c.args.begun) (c.wait.ensures.is c.in-Wait.takes)
 
 pub returns-in-Signal-clause-is : goal.returns-in-Signal-clause-is
 returns-in-Signal-clause-is c =
@@ -164,3 +171,6 @@ returns-in-Lock-clause-kept c at = c.lock.ensures.kept (first_of c.args.begun (s
 
 pub returns-in-Unlock-clause-kept : goal.returns-in-Unlock-clause-kept
 returns-in-Unlock-clause-kept c at = c.unlock.ensures.kept (first_of c.args.begun (shown_stmt c.args.s.now)) at
+
+pub returns-in-TryLock-clause-kept : goal.returns-in-TryLock-clause-kept
+returns-in-TryLock-clause-kept c at = c.try_lock.ensures.kept (first_of c.args.begun (shown_stmt c.args.s.now)) at

@@ -3,7 +3,8 @@ use Rattle.c_tree.specs.Bare as bare
 use Rattle.c_tree.specs.Bare.{Stmt}
 use Rattle.c_tree.specs.Expressions.{expr_of}
 use Rattle.c_frames.specs.Positions.{first_of}
-use Rattle.c_meaning.specs.Branching.{before, loop_of}
+use Rattle.c_tree.specs.Bare.{before}
+use Rattle.c_meaning.specs.Branching.{loop_of}
 use Rattle.c_meaning.specs.Shown.{shown_body}
 use Rattle.c_steps.specs.Model.{state_of}
 use Rattle.c_steps.proofs.Rows.{carried_with}

@@ -30,7 +30,9 @@ returns-clause-stuck c some =
     )
 
 pub returns-clause-each : goal.returns-clause-each
-returns-clause-each c threads stuck =
+returns-clause-each c threads stuck t is_there =
     let p = c.args.p.now in let s = c.args.self.now in
     let is = (c.stuck_sets_are_closed.ensures.closed (shown p) (state_of p s) threads).0 stuck in
-    c.largest.ensures.each threads (closed_in_table p s c.requires.state c.blocking.result.holders c.blocking.ensures threads is.1)
+    let h = is.1.stays t is_there in
+    c.largest.ensures.each threads (closed_in_table p s c.requires.state c.blocking.result.holders c.blocking.ensures threads is.1) t
+    (blocked_below p s c.requires.state t h.resource h.waits) is_there

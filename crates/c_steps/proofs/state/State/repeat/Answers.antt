@@ -4,7 +4,8 @@ use Rattle.c_tree.specs.Bare as bare
 use Rattle.c_tree.specs.Bare.{Cons}
 use Rattle.c_tree.specs.Expressions.{expr_of}
 use Rattle.c_tree.specs.Values.{is_true}
-use Rattle.c_meaning.specs.Branching.{before, looped}
+use Rattle.c_tree.specs.Bare.{before}
+use Rattle.c_meaning.specs.Branching.{looped}
 use Rattle.c_meaning.specs.State.{frame, goes_on}
 use Rattle.c_meaning.specs.Outcome.{Done}
 use Rattle.c_meaning.specs.declared.Did.TheVariants.{Step}

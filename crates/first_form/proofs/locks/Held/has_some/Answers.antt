@@ -1,7 +1,8 @@
 use Rattle.std.proofs.Common.{◌∙◌, sym, ℕ, List, rules, tests}
 use Rattle.std.proofs.lemmas.Iterator.{YieldsList-from_slice}
 use Rattle.std.proofs.lemmas.Iterator.Search.{any_from_yields_List}
-use Rattle.c_tree.specs.FirstForm.{mentions, mutexes_of}
+use Rattle.c_rules.specs.Names.{mentions}
+use Rattle.first_form.specs.FirstForm.{mutexes_of}
 use Rattle.first_form.specs.Shown.{shown}
 use Rattle.first_form.specs.Sets.{texts}
 use Rattle.first_form.proofs.Lists.{list_any-map}

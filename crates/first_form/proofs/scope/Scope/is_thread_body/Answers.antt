@@ -3,7 +3,7 @@ use Rattle.std.specs.List.{list_all}
 use Rattle.std.proofs.lemmas.Iterator.{YieldsList-from_slice}
 use Rattle.std.proofs.lemmas.Iterator.Search.{all_from_yields_List}
 use Rattle.c_tree.specs.declared.stmt.Stmt as declared
-use Rattle.c_tree.specs.FirstForm.{is_thread_body, is_first_act}
+use Rattle.first_form.specs.FirstForm.{is_thread_body, is_first_act}
 use Rattle.first_form.specs.Shown.{shown, shown_stmt, shown_body}
 use Rattle.first_form.specs.Bodies.{returns_nothing}
 use Rattle.first_form.proofs.Bodies.{thread_split, when_ends, unless_ends}
