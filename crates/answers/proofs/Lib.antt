@@ -1,4 +1,6 @@
-pub mod Accepting
-pub mod Judging
-pub mod OneAnswer
-pub mod EachText
+mod Judging
+mod Verdicts
+mod Instrumented
+mod Ran
+mod Declined
+mod Each

@@ -1,7 +1,12 @@
 pub mod Statuses
 pub mod Lines
 pub mod Answered
-pub mod Tasks
+pub mod Causes
+pub mod Refusing
 pub mod Reasons
+pub mod Programs
 pub mod Instrument
-pub mod Decides
+pub mod Traced
+pub mod Run
+pub mod Runtime
+pub mod Commands

@@ -1,25 +1,21 @@
-//! `gadara instrument FILE` hands back a C program with POSIX threads that can't deadlock on its
-//! mutexes, and refuses another.
+//! `gadara` instruments C programs with POSIX threads, so that they can't deadlock on their mutexes.
+//! Its commands and statuses are told in the README.
 #![tactic(auto)]
 
 use answers::Status;
 use gd_host::RealHost;
 use std::process::ExitCode;
 use std::{env, io};
-use top_call::{complain, gadara};
+use top_call::gadara;
 
 /// Runs the tool on the words of the command line, and ends with its status as the number. Where the
-/// words can't be had, it ends with 7 and its line for want of memory, and else with 6.
+/// words can't be had, or one of them isn't UTF-8, nothing is read or written, and it ends with 7 for
+/// want of memory and else with 6.
 fn main(rt: HostRuntime) -> ExitCode {
     let alloc = rt.alloc();
-    let words = words(&rt);
-    let mut host = RealHost::new(rt);
-    let status = match words {
-        Ok(words) => gadara(alloc, &words, &mut host),
-        Err(error) if error.kind() == io::ErrorKind::OutOfMemory => {
-            complain("gadara: out of memory\n", &mut host);
-            Status::Memory
-        }
+    let status = match words(&rt) {
+        Ok(words) => gadara(alloc, &words, &mut RealHost::new(rt)),
+        Err(error) if error.kind() == io::ErrorKind::OutOfMemory => Status::Memory,
         Err(_) => Status::HostFault,
     };
     ExitCode::from(status.number())

@@ -37,11 +37,12 @@ fn copied(alloc: Global, files: &Files) -> Result<Files, AllocError> {
     Ok(copies)
 }
 
-/// The words of a line.
+/// The words of a line; two quotes are an empty one.
 fn words_of(alloc: Global, line: &str) -> Result<Vec<String>, AllocError> {
     let mut words = Vec::new(alloc);
     for word in line.split_whitespace() {
-        words.push(String::from_str(alloc, word)?)?;
+        let text = if word == "\"\"" { "" } else { word };
+        words.push(String::from_str(alloc, text)?)?;
     }
     Ok(words)
 }

@@ -20,7 +20,7 @@
 //! run TEXT [~ NUMBER ..]                 a run with this input, a line for each event and for what is seen then
 //! trace TEXT ~ TEXT ~ TEXT               the trace of a program by a schedule on an input: the lines, and how it ended
 //! file NAME ~ TEXT                       a file of the host in memory
-//! call WORDS ~ STATUS ~ OUT ~ ERR [~ ROOM [~ FAILS]]   how the tool ends, and what it writes
+//! call WORDS ~ STATUS ~ OUT ~ ERR [~ ROOM [~ FAILS]]   how the tool ends, and what it writes; two quotes are an empty word
 //! ```
 //!
 //! For each table it prints how many rows it has, and how many differ.

@@ -1,5 +1,5 @@
 -- Runs that go one event further.
-use Rattle.std.proofs.Common.{◌≡◌, ℕ, zero, suc, ◌+◌, ◌<◌, List, [], ◌∷◌, ◌++◌, length, get_or, take, Some, None, refl, sym, ap, ◌∙◌, subst, ◌⊎◌, inl, inr, ⊎_elim, arith}
+use Rattle.std.proofs.Common.{◌≡◌, ℕ, zero, suc, ◌<◌, List, [], ◌∷◌, ◌++◌, length, take, Some, refl, sym, ap, ◌∙◌, ◌⊎◌, inl, inr, ⊎_elim, arith}
 use Rattle.std.specs.Prelude.{slice_get}
 use Rattle.std.specs.declared.option.Option.{Option}
 use Rattle.std.proofs.Math.Seq.{take-suc}
@@ -15,7 +15,7 @@ use Rattle.c_meaning.specs.Run.{run, then_on}
 use Rattle.c_meaning.specs.State.{State}
 use Rattle.c_meaning.specs.Step.{step}
 use Rattle.schedule_runner.specs.Acts.{act_line}
-use Rattle.schedule_runner.specs.Traces.{IsFollowed, IsActAt, IsRefusedAt, appended}
+use Rattle.schedule_runner.specs.Traces.{IsFollowed, appended}
 
 run_on : (o : Outcome) (rest more : State → Option State) (t next : State) → ((s : State) → rest s ≡ Some t → more s ≡ Some next) → then_on o rest ≡ Some t → then_on o more ≡ Some next
 run_on outcome.NotEnabled rest more t next goes here = absurd (cc here)

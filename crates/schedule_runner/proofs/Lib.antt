@@ -1,1 +1,1 @@
-mod Follows
+pub mod Follows

@@ -1,6 +1,5 @@
 -- Runs by schedules, and what a trace says of one.
-use Rattle.std.specs.Prelude.{◌≡◌, ◌≢◌, ℕ, ℤ, suc, ◌<◌, Bool, IsTrue, List, length, take, drop, slice_get, Some, ⊤}
-use Rattle.std.specs.declared.option.Option.{Option}
+use Rattle.std.specs.Prelude.{◌≡◌, ◌≢◌, ℕ, ℤ, suc, Bool, IsTrue, List, length, take, drop, slice_get, Some}
 use Rattle.c_tree.specs.Bare.{Program}
 use Rattle.c_check.specs.Tables.{Numbers}
 use Rattle.c_meaning.specs.declared.Did.{Did}

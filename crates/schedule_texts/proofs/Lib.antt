@@ -5,3 +5,5 @@ mod Numbers
 mod Valued
 mod OneSchedule
 mod OneInput
+mod EachSchedule
+mod EachInput

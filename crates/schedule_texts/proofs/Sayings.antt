@@ -38,7 +38,7 @@ pub next_event : (lines : List (List ℕ)) (k : ℕ) (es : List Event) (e : Even
 next_event lines k es e within say says spells = subst (λ xs. Say xs (es ++ e ∷ [])) (sym (next lines k within)) (Say-more (take k lines) es (get_or lines k []) e say says spells)
 
 -- one event too many
-too_long : (text : List ℕ) (k : ℕ) (es : List Event) (e : Event) → k < length (lines_of text) → Say (take k (lines_of text)) es → length es ≡ most_events → is_silent (get_or (lines_of text) k []) ≡ false → Spells (get_or (lines_of text) k []) e → IsTooLong text
+pub too_long : (text : List ℕ) (k : ℕ) (es : List Event) (e : Event) → k < length (lines_of text) → Say (take k (lines_of text)) es → length es ≡ most_events → is_silent (get_or (lines_of text) k []) ≡ false → Spells (get_or (lines_of text) k []) e → IsTooLong text
 too_long text k es e within say full says spells = record {
   place = k + 1;
   events = es ++ e ∷ [];

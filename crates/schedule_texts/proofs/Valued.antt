@@ -31,7 +31,7 @@ one_number pieces piece v old new some is value have =
     )
 
 -- one line more
-one_line : (lines : List (List ℕ)) (line : List ℕ) (old new : List ℤ) → AreNumbers lines old → HaveValues (pieces_of line) old new → AreNumbers (lines ++ line ∷ []) new
+pub one_line : (lines : List (List ℕ)) (line : List ℕ) (old new : List ℤ) → AreNumbers lines old → HaveValues (pieces_of line) old new → AreNumbers (lines ++ line ∷ []) new
 one_line lines line old new are have =
     let alone : flat_map words_of (line ∷ []) ≡ words_of line = append-nil (words_of line) in
     subst (EachValued (flat_map words_of (lines ++ line ∷ []))) (sym have.2) (subst (λ ws. EachValued ws (old ++ have.0)) (sym (flat_map-append words_of lines (line ∷ []) ∙ ap (λ ws. flat_map words_of lines ++ ws) alone)) (EachValued-append (flat_map words_of lines) old (words_of line) have.0 are have.1))

@@ -75,3 +75,9 @@ abbrev pub Answers : List ℕ → Result (List ℤ) InputError → Type 0
 Answers text (Ok values) = AreNumbers (lines_of text) values
 Answers text (Err (BadInput line)) = IsBadAt text line
 Answers text (Err Memory) = ⊤
+
+-- some answer that isn't want of memory says so of a text
+pub record HasAnswer (text : List ℕ) : Type 0 where
+  pub answer : Result (List ℤ) InputError
+  pub is : Answers text answer
+  pub told : answer ≢ Err Memory

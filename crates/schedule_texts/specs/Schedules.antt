@@ -1,5 +1,5 @@
 -- Texts that are schedules, and what is wrong with others.
-use Rattle.std.specs.Prelude.{◌≡◌, ℕ, suc, ◌<◌, ◌≤◌, Bool, true, false, ◌==◌, not, List, [], ◌∷◌, length, take, slice_index_or, ⊤, filter}
+use Rattle.std.specs.Prelude.{◌≡◌, ◌≢◌, ℕ, suc, ◌<◌, ◌≤◌, Bool, true, false, ◌==◌, not, List, [], ◌∷◌, length, take, slice_index_or, ⊤, filter}
 use Rattle.std.specs.List.{slice_split}
 use Rattle.std.specs.declared.result.Result.{Result}
 use Rattle.std.specs.declared.result.Result.TheVariants.{Ok, Err}
@@ -77,3 +77,9 @@ Answers text (Ok es) = IsSchedule text es
 Answers text (Err (BadEvent line)) = IsBadAt text line
 Answers text (Err TooLong) = IsTooLong text
 Answers text (Err Memory) = ⊤
+
+-- some answer that isn't want of memory says so of a text
+pub record HasAnswer (text : List ℕ) : Type 0 where
+  pub answer : Result (List Event) ScheduleError
+  pub is : Answers text answer
+  pub told : answer ≢ Err Memory

@@ -8,15 +8,17 @@ ghost use Rattle.schedule_texts.specs.declared.input.InputError.TheVariants as i
 ghost use Rattle.schedule_texts.specs.declared.schedule.ScheduleError.{ScheduleError};
 ghost use Rattle.schedule_texts.specs.declared.schedule.ScheduleError.TheVariants as schedule_error;
 
-/// A text is one schedule, or wrong in one way: of two answers that [`crate::read_schedule`] may give, want of memory apart,
+/// Each text is a schedule or wrong in some way, and so in one alone: of two answers that [`crate::read_schedule`] may give, want of memory apart,
 /// each is the other.
 pub fn one_schedule()
-    ensures { (text : List ℕ) (r q : Result (List Event) ScheduleError) → schedules.Answers text r → schedules.Answers text q
+    ensures some { (text : List ℕ) → schedules.HasAnswer text }
+    ensures one { (text : List ℕ) (r q : Result (List Event) ScheduleError) → schedules.Answers text r → schedules.Answers text q
         → r ≢ Err schedule_error.Memory → q ≢ Err schedule_error.Memory → r ≡ q }
 {}
 
 /// The same of inputs.
 pub fn one_input()
-    ensures { (text : List ℕ) (r q : Result (List ℤ) InputError) → inputs.Answers text r → inputs.Answers text q
+    ensures some { (text : List ℕ) → inputs.HasAnswer text }
+    ensures one { (text : List ℕ) (r q : Result (List ℤ) InputError) → inputs.Answers text r → inputs.Answers text q
         → r ≢ Err input_error.Memory → q ≢ Err input_error.Memory → r ≡ q }
 {}

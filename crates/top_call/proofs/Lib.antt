@@ -1,6 +1,4 @@
 mod Steps
 mod Told
-mod Derived
-mod Causes
-mod Instrumented
+mod Ended
 mod One

@@ -1,92 +1,127 @@
--- There is one answer of each list of words and of files, and no other one.
-use Rattle.std.proofs.Common.{◌≡◌, ◌≤◌, ◌⊎◌, ℕ, List, [], ◌∷◌, length, Some, None, refl, sym, ap, subst, ◌∙◌, inl, inr}
-use Rattle.std.specs.Prelude.{Option, codes}
-use Rattle.std.specs.FinMap as map
-use Rattle.std.proofs.lemmas.Bool.{le-ltb}
-use Rattle.gd_host.specs.Outside.{Files, Seen}
-use Rattle.answers.specs.declared.task.Task.{Task}
-use Rattle.answers.specs.declared.task.Task.TheVariants.{Instrument}
+-- What the laws of answers make of the ways in which a call can end.
+use Rattle.std.proofs.Common.{◌≡◌, length, ℕ, List, [], ◌∷◌, true, Some, None, refl, sym, ap, subst, ◌∙◌, inl, inr, arith}
+use Rattle.std.specs.Prelude.{Option}
+use Rattle.gd_host.specs.Outside.{Files, Seen, extended}
+use Rattle.command_words.specs.declared.command.Command.TheVariants.{Instrument}
+use Rattle.command_words.specs.Tasks.{Task}
+use Rattle.command_words.specs.Words.{task_of}
 use Rattle.answers.specs.declared.status.Status.{Status}
-use Rattle.answers.specs.declared.status.Status.TheVariants.{HostFault, Memory}
+use Rattle.answers.specs.declared.status.Status.TheVariants.{Done}
 use Rattle.answers.specs.Answered.{Answered, usage_answer, unread_answer, too_long_answer}
-use Rattle.answers.specs.Decides.{Decides, at}
-use Rattle.answers.specs.Instrument.{Instruments, EachTextHasAnswer, OneAnswer}
-use Rattle.answers.specs.Tasks.{limit_of}
-use Rattle.top_call.specs.Answers.{Fetched, fetched, task_of, names_of, names_for, Answers, AnswersOn, AnswersFor, IsAnswered}
-use Rattle.top_call.specs.Ending.{Ends, HasStatus, EndsAsAnswered, IsAsAnswered}
-use Rattle.top_call.specs.Causes.{InstrumentsFile, EndsByFile}
-use Rattle.top_call.proofs.Derived.{exact_ends, status_ends}
+use Rattle.answers.specs.Causes.{CauseOf, Decides, HasAnswer, HasOneAnswer}
+use Rattle.answers.specs.Commands.{at, causes_of}
+use Rattle.answers.specs.Instrument as instrument
+use Rattle.answers.specs.Instrument.{IsAccepted, IsSafe}
+use Rattle.answers.specs.Statuses.{is_written}
+use Rattle.top_call.specs.Answers.{Answers, AnswersFor, AnswersOn, Fetched, read_for}
+use Rattle.top_call.specs.Fetching.{AreRead}
+use Rattle.top_call.specs.Ending.{Ends, NoFault, IsAsAnswered}
+use Rattle.top_call.specs.Clauses as clauses
+use Rattle.top_call.specs.Clauses.{AsksToInstrument, HandsBack, Headline, IsCause, Writes, EndsBy, Exact, AreAccepted, Complete}
+use Rattle.top_call.proofs.Told.{not_both}
+use Rattle.top_call.proofs.Ended.{of_files, as_written, as_refused, says_all, explained}
 
-decides_one : OneAnswer → (task : Task) (names contents : List (List ℕ)) (a b : Answered) → Decides task names contents a → Decides task names contents b → a ≡ b
-decides_one one Instrument names contents a b x y = one (at names 0) (at contents 0) a b x y
+-- ---- one answer
 
-on_one : OneAnswer → (task : Task) (names : List (List ℕ)) (end : Fetched) (a b : Answered) → AnswersOn task names end a → AnswersOn task names end b → a ≡ b
-on_one one task names (Fetched.whole contents) a b x y = decides_one one task names contents a b x y
-on_one one task names (Fetched.absent name) a b x y = x ∙ sym y
-on_one one task names (Fetched.long name limit) a b x y = x ∙ sym y
+abbrev pub OneEach : Type 0
+OneEach = (task : Task) (contents : List (List ℕ)) → HasOneAnswer (causes_of task contents)
 
-for_one : OneAnswer → (files : Files) (names : List (List ℕ)) (found : Option Task) (a b : Answered) → AnswersFor files names found a → AnswersFor files names found b → a ≡ b
-for_one one files names None a b x y = x ∙ sym y
-for_one one files names (Some task) a b x y = on_one one task names _ a b x y
+one_on : OneEach → (task : Task) (end : Fetched) (a b : Answered) → AnswersOn task end a → AnswersOn task end b → a ≡ b
+one_on one task (Fetched.whole contents) a b x y = one task contents a b x y
+one_on one task (Fetched.absent name) a b x y = x ∙ sym y
+one_on one task (Fetched.long name limit) a b x y = x ∙ sym y
 
-pub answers_one : OneAnswer → (words : List (List ℕ)) (files : Files) (a b : Answered) → Answers words files a → Answers words files b → a ≡ b
-answers_one one words files a b x y = for_one one files (names_of words) (task_of words) a b x y
+one_for : OneEach → (files : Files) (found : Option Task) (a b : Answered) → AnswersFor files found a → AnswersFor files found b → a ≡ b
+one_for one files None a b x y = x ∙ sym y
+one_for one files (Some task) a b x y = one_on one task (read_for files task) a b x y
 
--- ---- there is one
+pub one_of : OneEach → (words : List (List ℕ)) (files : Files) (a b : Answered) → Answers words files a → Answers words files b → a ≡ b
+one_of one words files a b x y = one_for one files (task_of words) a b x y
 
-decides_some : EachTextHasAnswer → (task : Task) (names contents : List (List ℕ)) → (answer : Answered) × Decides task names contents answer
-decides_some each Instrument names contents = let x = each (at names 0) (at contents 0) in (x.answer, x.is)
+-- ---- and there is one
 
-on_some : EachTextHasAnswer → (task : Task) (names : List (List ℕ)) (end : Fetched) → (answer : Answered) × AnswersOn task names end answer
-on_some each task names (Fetched.whole contents) = decides_some each task names contents
-on_some each task names (Fetched.absent name) = (unread_answer name, refl)
-on_some each task names (Fetched.long name limit) = (too_long_answer name limit, refl)
+abbrev pub SomeEach : Type 0
+SomeEach = (task : Task) (contents : List (List ℕ)) → HasAnswer (causes_of task contents)
 
-for_some : EachTextHasAnswer → (files : Files) (names : List (List ℕ)) (found : Option Task) → (answer : Answered) × AnswersFor files names found answer
-for_some each files names None = (usage_answer, refl)
-for_some each files names (Some task) = on_some each task names (fetched files (limit_of task) [] names)
+some_on : SomeEach → (task : Task) (end : Fetched) → (a : Answered) × AnswersOn task end a
+some_on each task (Fetched.whole contents) = let x = each task contents in (x.answer, x.is)
+some_on each task (Fetched.absent name) = (unread_answer name, refl)
+some_on each task (Fetched.long name limit) = (too_long_answer name limit, refl)
 
-pub answers_some : EachTextHasAnswer → (words : List (List ℕ)) (files : Files) → IsAnswered words files
-answers_some each words files = let x = for_some each files (names_of words) (task_of words) in record { answer = x.0; is = x.1 }
+some_for : SomeEach → (files : Files) (found : Option Task) → (a : Answered) × AnswersFor files found a
+some_for each files None = (usage_answer, refl)
+some_for each files (Some task) = some_on each task (read_for files task)
 
--- ---- the answer of a file
+pub one_answer : SomeEach → OneEach → (words : List (List ℕ)) (files : Files) → clauses.HasOneAnswer words files
+one_answer each one words files =
+    let x = some_for each files (task_of words) in
+    record { answer = x.0; is = x.1; only = λ other y. one_of one words files x.0 other x.1 y }
 
-file_read : (files : Files) (name bytes : List ℕ) → map.get files name ≡ Some bytes → length bytes ≤ 262144 → fetched files (λ place. 262144) [] (name ∷ []) ≡ Fetched.whole (bytes ∷ [])
-file_read files name bytes held within = rw (held, le-ltb 262144 (length bytes) within) refl
+-- ---- a call ends so
 
-names_are : (command : List ℕ) (names : List (List ℕ)) → task_of (command ∷ names) ≡ Some Instrument → names_of (command ∷ names) ≡ names
-names_are command names task = ap (λ found. names_for names found) task
+module _ (one : OneEach) (words : List (List ℕ)) (old new : Seen) (files : Files) (told : old.files ≡ Some files) where
+  pub exact : (s : Status) → Ends words old new s → Exact words files old new s
+  exact s (Ends.written b is wants same out err) a x =
+      let e : b ≡ a = one_of one words files b a (of_files words old.files files b told is) x in
+      record { ends = inl (same ∙ ap (λ c. c.status) e); told = λ none. inl (subst (λ c. IsAsAnswered c old new s) e (as_written b old new s wants same out err)) }
+  exact s (Ends.refused b is wants same out said) a x =
+      let e : b ≡ a = one_of one words files b a (of_files words old.files files b told is) x in
+      record { ends = inl (same ∙ ap (λ c. c.status) e); told = λ none. inl (subst (λ c. IsAsAnswered c old new s) e (as_refused b old new s wants same out (says_all b.told old new none said))) }
+  exact s (Ends.unread place is same out said) a x = record { ends = inr (inl same); told = λ none. absurd (none.reads is.rose) }
+  exact s (Ends.unwritten b is wants same rose count out said) a x = record { ends = inr (inl same); told = λ none. absurd (none.writes rose) }
+  exact s (Ends.forgotten same out said) a x = record { ends = inr (inr same); told = λ none. inr same }
 
-file_for : (files : Files) (names : List (List ℕ)) (found : Option Task) (name bytes : List ℕ) (answer : Answered) → found ≡ Some Instrument → names ≡ name ∷ [] → map.get files name ≡ Some bytes → length bytes ≤ 262144
-    → Instruments name bytes answer → AnswersFor files names found answer
-file_for files names found name bytes answer task same held within is =
-    rw (task, same) (subst (λ end. AnswersOn Instrument (name ∷ []) end answer) (sym (file_read files name bytes held within)) is)
+-- ---- what is accepted is done, or answered no
 
-file_words : (words : List (List ℕ)) (files : Files) (name bytes : List ℕ) (answer : Answered) → words ≡ codes "instrument" ∷ name ∷ [] → task_of words ≡ Some Instrument → map.get files name ≡ Some bytes → length bytes ≤ 262144
-    → Instruments name bytes answer → Answers words files answer
-file_words [] files name bytes answer asked task held within is = absurd cc
-file_words (command ∷ names) files name bytes answer asked task held within is =
-    let same : names ≡ name ∷ [] = cc in
-    file_for files (names_of (command ∷ names)) (task_of (command ∷ names)) name bytes answer task (names_are command names task ∙ same) held within is
+abbrev pub WrittenEach : Type 0
+WrittenEach = (task : Task) (contents : List (List ℕ)) → (causes_of task contents).accepted → (a : Answered) → Decides (causes_of task contents) a → is_written a.status ≡ true
 
-pub file_answers : (words : List (List ℕ)) (files : Files) (name bytes : List ℕ) (answer : Answered) → InstrumentsFile words files name bytes → Instruments name bytes answer → Answers words files answer
-file_answers words files name bytes answer file is = file_words words files name bytes answer file.asked file.task file.held file.within is
+module _ (written : WrittenEach) (words : List (List ℕ)) (old new : Seen) (files : Files) (told : old.files ≡ Some files) where
+  decides_of : (a : Answered) → Answers words files a → (acc : AreAccepted words files) → Decides (causes_of acc.task acc.contents) a
+  decides_of a x acc = subst (λ end. AnswersOn acc.task end a) acc.read (subst (λ found. AnswersFor files found a) acc.asked x)
 
--- ---- how a call ends
+  pub complete : NoFault old new → (s : Status) → Ends words old new s → Complete words files s
+  complete none s (Ends.written b is wants same out err) acc = inl (ap is_written same ∙ wants)
+  complete none s (Ends.refused b is wants same out said) acc =
+      absurd (not_both (is_written b.status) (written acc.task acc.contents acc.accepted b (decides_of b (of_files words old.files files b told is) acc)) wants)
+  complete none s (Ends.unread place is same out said) acc = absurd (none.reads is.rose)
+  complete none s (Ends.unwritten b is wants same rose count out said) acc = absurd (none.writes rose)
+  complete none s (Ends.forgotten same out said) acc = inr same
 
-status_by : OneAnswer → (words : List (List ℕ)) (files : Files) (old new : Seen) (status : Status) (answer : Answered) → Answers words files answer → HasStatus words files old new status
-    → (status ≡ answer.status) ⊎ ((status ≡ HostFault) ⊎ (status ≡ Memory))
-status_by one words files old new status answer is (HasStatus.same other was same) = inl (same ∙ ap (λ (a : Answered). a.status) (answers_one one words files other answer was is))
-status_by one words files old new status answer is (HasStatus.fault same fault) = inr (inl same)
-status_by one words files old new status answer is (HasStatus.forgotten same) = inr (inr same)
+-- ---- the headline
 
-told_by : OneAnswer → (words : List (List ℕ)) (files : Files) (old new : Seen) (status : Status) (answer : Answered) → Answers words files answer → EndsAsAnswered words files old new status
-    → IsAsAnswered answer old new status ⊎ (status ≡ Memory)
-told_by one words files old new status answer is (EndsAsAnswered.answered other was same) = inl (subst (λ a. IsAsAnswered a old new status) (answers_one one words files other answer was is) same)
-told_by one words files old new status answer is (EndsAsAnswered.forgotten same) = inr same
+alone : (contents : List (List ℕ)) → length contents ≡ 1 → contents ≡ at contents 0 ∷ []
+alone [] e = absurd (omega (arith, e))
+alone (bytes ∷ []) e = refl
+alone (bytes ∷ more ∷ rest) e = absurd (omega (arith, e))
 
-pub ends_by_file : OneAnswer → (words : List (List ℕ)) (old new : Seen) (status : Status) → Ends words old new status → (files : Files) → old.files ≡ Some files → EndsByFile words files old new status
-ends_by_file one words old new status ends files told = λ name bytes answer file is. record {
-  ends = status_by one words files old new status answer (file_answers words files name bytes answer file is) (status_ends words old new status ends files told);
-  told = λ none. told_by one words files old new status answer (file_answers words files name bytes answer file is) (exact_ends words old new status ends none files told);
-}
+module _ (safe : (bytes : List ℕ) → IsAccepted bytes → IsSafe bytes) (words : List (List ℕ)) (old new : Seen) where
+  -- what was told of a file
+  handed : (siphons monitors : ℕ) (file told : List ℕ) (contents : List (List ℕ)) → task_of words ≡ Some (record { command = Instrument siphons monitors; files = file ∷ [] })
+      → AreRead old.files (record { command = Instrument siphons monitors; files = file ∷ [] }) contents
+      → CauseOf (instrument.causes file (at contents 0)) Done told → new.out ≡ extended old.out told → HandsBack words old new
+  handed siphons monitors file told contents asked read cause written = record {
+    task = record { command = Instrument siphons monitors; files = file ∷ [] };
+    asked = asked;
+    bytes = at contents 0;
+    read = subst (λ c. AreRead old.files (record { command = Instrument siphons monitors; files = file ∷ [] }) c) (alone contents read.each) read;
+    written = written ∙ ap (λ t. extended old.out t) cause.1;
+    safe = safe (at contents 0) cause.0;
+  }
+
+  same_task : (a b : Task) → task_of words ≡ Some a → task_of words ≡ Some b → b ≡ a
+  same_task a b x y = let e : Some a ≡ Some b = sym x ∙ y in cc
+
+  of_cause : (siphons monitors : ℕ) (file told : List ℕ) → task_of words ≡ Some (record { command = Instrument siphons monitors; files = file ∷ [] })
+      → IsCause words old Done told → new.out ≡ extended old.out told → HandsBack words old new
+  of_cause siphons monitors file told asked cause written =
+      let task : Task = record { command = Instrument siphons monitors; files = file ∷ [] } in
+      let same : cause.task ≡ task = same_task task cause.task asked cause.asked in
+      handed siphons monitors file told cause.contents asked
+      (subst (λ t. AreRead old.files t cause.contents) same cause.read)
+      (subst (λ t. CauseOf (causes_of t cause.contents) Done told) same cause.cause) written
+
+  pub headline : (s : Status) → Ends words old new s → Headline words old new s
+  headline s ends file asks done =
+      let w = (explained words old new s ends).done done in
+      of_cause asks.siphons asks.monitors file w.told asks.asks w.cause w.written

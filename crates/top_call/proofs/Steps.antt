@@ -3,16 +3,16 @@ use Rattle.std.proofs.Common.{◌≡◌, ◌<◌, ◌≤◌, ◌+◌, ◌^◌, �
 use Rattle.std.specs.Prelude.{Result, Option, String, string_bytes, IfSome, IfOk, IsErrOf, option_map}
 use Rattle.std.specs.declared.alloc.Global.{Global}
 use Rattle.std.proofs.Math.Seq.{take-suc}
-use Rattle.std.proofs.lemmas.List.{length-append, get_or-map, length-map, map-append}
+use Rattle.std.proofs.lemmas.List.{length-append, get_or-map, length-map, map-append, drop_all}
 use Rattle.std.proofs.lemmas.Bool.{cases_lt, lt-ltb, le-ltb}
-use Rattle.answers.specs.declared.task.Task.{Task}
-use Rattle.answers.specs.Tasks.{texts, limit_of}
-use Rattle.answers.specs.Decides.{at, contents}
+use Rattle.command_words.specs.declared.command.Command.{Command}
+use Rattle.command_words.specs.Tasks.{texts, limit_of}
+use Rattle.answers.specs.Commands.{at, contents_of}
 use Rattle.gd_host.specs.Outside.{Files, Seen, Rose, HoldsFile, IsLong, Asks}
 use Rattle.gd_host.specs.declared.host.FetchError.{FetchError}
 use Rattle.gd_host.specs.declared.host.FetchError.TheVariants.{Failed, TooLong, Memory}
 use Rattle.top_call.specs.Answers.{Fetched, fetched}
-use Rattle.top_call.specs.Fetching.{IsWithin, AsksInOrder, OnlyReads, IsStopped, HasRead}
+use Rattle.top_call.specs.Fetching.{Reads, IsWithin, AsksInOrder, OnlyReads, IsStopped, HasRead}
 
 -- what one fetch promises
 pub record Fetches (now then : Seen) (name : List ℕ) (limit : ℕ) (result : Result (Vec ℕ Global) FetchError) : Type 0 where
@@ -55,6 +55,14 @@ short_more n [] bytes positive all small (suc k) = positive
 short_more n (first ∷ read) bytes positive all small zero = all 0
 short_more n (first ∷ read) bytes positive all small (suc k) = short_more n read bytes positive (λ j. all (suc j)) small k
 
+fits_more : (limit : ℕ → ℕ) (read : List (List ℕ)) (bytes : List ℕ) → ((k : ℕ) → k < length read → length (at read k) ≤ limit k)
+    → length bytes ≤ limit (length read) → (k : ℕ) → k < length read + 1 → length (at (read ++ bytes ∷ []) k) ≤ limit k
+fits_more limit [] bytes all fits zero below = fits
+fits_more limit [] bytes all fits (suc k) below = absurd (omega (arith, below))
+fits_more limit (first ∷ read) bytes all fits zero below = all 0 (omega arith)
+fits_more limit (first ∷ read) bytes all fits (suc k) below =
+    fits_more (λ j. limit (suc j)) read bytes (λ j less. all (suc j) (omega (arith, less))) fits k (omega (arith, below))
+
 -- the files of the first names are within their limits, and so is the next one
 within_more : (files : Files) (limit : ℕ → ℕ) (names : List (List ℕ)) (place : ℕ) → ((k : ℕ) → k < place → IsWithin files limit names k)
     → IsWithin files limit names place → (k : ℕ) → k < place + 1 → IsWithin files limit names k
@@ -87,6 +95,7 @@ reads_more limit names old now then read bytes has inside fits small fetch =
     λ files told. subst (λ f. IfSome f (λ fs. HoldsFile fs (at names (length read)) bytes.items)) (has.only_reads.files ∙ told) fetch.whole in
     record {
       count = length-append read (bytes.items ∷ []);
+      fits = fits_more limit read bytes.items has.fits fits;
       reaches = λ files told. has.reaches files told ∙ reaches_step files limit read names bytes.items inside (held files told) fits;
       within = λ files told. within_more files limit names (length read) (has.within files told)
           (record { bytes = bytes.items; held = held files told; fits = fits });
@@ -152,18 +161,18 @@ pub name_is : (names : List (String Global)) (place : ℕ) (item : String Global
     → item ≡ get_or names place item → text ≡ string_bytes item → text ≡ at (texts names) place
 name_is names place item text inside item_is text_is = text_is ∙ ap string_bytes item_is ∙ sym (get_or-map string_bytes names place item [] inside)
 
-pub place_is : (files : List (Vec ℕ Global)) (place : ℕ) → place ≡ length files → place ≡ length (contents files)
+pub place_is : (files : List (Vec ℕ Global)) (place : ℕ) → place ≡ length files → place ≡ length (contents_of files)
 place_is files place is = is ∙ sym (length-map files (λ file. file.items))
 
 pub inside_texts : (names : List (String Global)) (place index : ℕ) → place ≡ index → index < length names → place < length (texts names)
 inside_texts names place index same inside = rw (same, length-map names string_bytes) inside
 
 -- what the code knows of a fetch of the next name, as one fact
-pub next_fetch : (task : Task) (names : List (String Global)) (files : List (Vec ℕ Global)) (now then : Seen) (index place limit : ℕ)
+pub next_fetch : (task : Command) (names : List (String Global)) (files : List (Vec ℕ Global)) (now then : Seen) (index place limit : ℕ)
     (item : String Global) (text : List ℕ) (result shown : Result (Vec ℕ Global) FetchError)
-    → length (contents files) ≡ index → index < length names → item ≡ get_or names index item → text ≡ string_bytes item
+    → length (contents_of files) ≡ index → index < length names → item ≡ get_or names index item → text ≡ string_bytes item
     → place ≡ length files → limit ≡ limit_of task place → result ≡ shown → Fetches now then text limit result
-    → Fetches now then (at (texts names) (length (contents files))) (limit_of task (length (contents files))) shown
+    → Fetches now then (at (texts names) (length (contents_of files))) (limit_of task (length (contents_of files))) shown
 next_fetch task names files now then index place limit item text result shown count inside item_is text_is placed limit_is result_is fetch =
     moved now then text _ limit _ result shown
     (name_is names index item text inside item_is text_is ∙ ap (λ i. at (texts names) i) (sym count))
@@ -175,17 +184,26 @@ pub at_count : (limit : ℕ → ℕ) (names : List (List ℕ)) (old now : Seen) 
 at_count limit names old now read place has = rw (has.count) has
 
 pub reads_pushed : (limit : ℕ → ℕ) (names : List (List ℕ)) (old then : Seen) (files more : List (Vec ℕ Global)) (bytes : Vec ℕ Global) (index : ℕ)
-    → more ≡ files ++ bytes ∷ [] → length (contents files) ≡ index
-    → HasRead limit names old then (contents files ++ bytes.items ∷ []) (length (contents files) + 1)
-    → HasRead limit names old then (contents more) (index + 1)
+    → more ≡ files ++ bytes ∷ [] → length (contents_of files) ≡ index
+    → HasRead limit names old then (contents_of files ++ bytes.items ∷ []) (length (contents_of files) + 1)
+    → HasRead limit names old then (contents_of more) (index + 1)
 reads_pushed limit names old then files more bytes index pushed count has =
-    subst (λ i. HasRead limit names old then (contents more) (i + 1)) count
-    (subst (λ r. HasRead limit names old then r (length (contents files) + 1)) (sym (ap contents pushed ∙ map-append (λ file. file.items) files (bytes ∷ []))) has)
+    subst (λ i. HasRead limit names old then (contents_of more) (i + 1)) count
+    (subst (λ r. HasRead limit names old then r (length (contents_of files) + 1)) (sym (ap contents_of pushed ∙ map-append (λ file. file.items) files (bytes ∷ []))) has)
 
-pub fits_at : (task : Task) (size limit place : ℕ) (files : List (Vec ℕ Global)) → place ≡ length files → limit ≡ limit_of task place
-    → size ≤ limit → size ≤ limit_of task (length (contents files))
+pub fits_at : (task : Command) (size limit place : ℕ) (files : List (Vec ℕ Global)) → place ≡ length files → limit ≡ limit_of task place
+    → size ≤ limit → size ≤ limit_of task (length (contents_of files))
 fits_at task size limit place files placed limit_is fits = subst (λ n. size ≤ n) (limit_is ∙ ap (λ i. limit_of task i) (place_is files place placed)) fits
 
-pub small_at : (task : Task) (limit place : ℕ) (files : List (Vec ℕ Global)) → place ≡ length files → limit ≡ limit_of task place
-    → limit < 2 ^ 31 → limit_of task (length (contents files)) < 2 ^ 31
+pub small_at : (task : Command) (limit place : ℕ) (files : List (Vec ℕ Global)) → place ≡ length files → limit ≡ limit_of task place
+    → limit < 2 ^ 31 → limit_of task (length (contents_of files)) < 2 ^ 31
 small_at task limit place files placed limit_is small = subst (λ n. n < 2 ^ 31) (limit_is ∙ ap (λ i. limit_of task i) (place_is files place placed)) small
+
+-- all files are read
+pub all_read : (limit : ℕ → ℕ) (names : List (List ℕ)) (old now : Seen) (read : List (List ℕ)) (place : ℕ) → HasRead limit names old now read place → place ≡ length names
+    → Reads old.files limit names read
+all_read limit names old now read place has whole = record {
+  each = has.count ∙ whole;
+  within = λ k below. has.fits k (omega (arith, below, whole));
+  of_files = λ files told. has.reaches files told ∙ ap (λ left. fetched files limit read left) (drop_all (length read) names (omega (arith, has.count, whole)));
+}

@@ -1,30 +1,25 @@
--- The whole behaviour of the tool: what a list of words answers of given files.
+-- What a list of words answers of given files.
 use Rattle.std.specs.Prelude.{◌≡◌, ℕ, List, [], ◌∷◌, ◌++◌, length, nat_lt, if◌then◌else◌, Some, None, Option}
 use Rattle.std.specs.FinMap as map
 use Rattle.gd_host.specs.Outside.{Files}
-use Rattle.answers.specs.declared.task.Task.{Task}
+use Rattle.command_words.specs.Tasks.{Task, limit_of}
+use Rattle.command_words.specs.Words.{task_of}
 use Rattle.answers.specs.Answered.{Answered, usage_answer, unread_answer, too_long_answer}
-use Rattle.answers.specs.Tasks.{task_of_words, limit_of}
-use Rattle.answers.specs.Decides.{Decides}
+use Rattle.answers.specs.Causes.{Decides}
+use Rattle.answers.specs.Commands.{causes_of}
 
--- what a list of words asks for, if it is of a known shape
-abbrev pub task_of : List (List ℕ) → Option Task
-task_of [] = None
-task_of (command ∷ names) = task_of_words command names
+-- the names of the files that are asked for; words of no known shape ask for none
+abbrev pub files_for : Option Task → List (List ℕ)
+files_for None = []
+files_for (Some task) = task.files
 
--- the words that name files, in their order; words of no known shape name none
-abbrev pub names_for : List (List ℕ) → Option Task → List (List ℕ)
-names_for names None = []
-names_for names (Some task) = names
-
-abbrev pub names_of : List (List ℕ) → List (List ℕ)
-names_of [] = []
-names_of (command ∷ names) = names_for names (task_of_words command names)
+abbrev pub files_named : List (List ℕ) → List (List ℕ)
+files_named words = files_for (task_of words)
 
 -- the most bytes of each of these files, by its place
 abbrev pub limits_for : Option Task → ℕ → ℕ
 limits_for None place = 0
-limits_for (Some task) place = limit_of task place
+limits_for (Some task) place = limit_of task.command place
 
 abbrev pub limits_of : List (List ℕ) → ℕ → ℕ
 limits_of words = limits_for (task_of words)
@@ -45,21 +40,20 @@ fetched files limit read [] = Fetched.whole read
 fetched files limit read (name ∷ names) =
     fetched_on name (limit (length read)) (λ bytes. fetched files limit (read ++ bytes ∷ []) names) (map.get files name)
 
--- what is answered once the files are read, or can't be
-abbrev pub AnswersOn : Task → List (List ℕ) → Fetched → Answered → Type 0
-AnswersOn task names (Fetched.whole contents) answer = Decides task names contents answer
-AnswersOn task names (Fetched.absent name) answer = answer ≡ unread_answer name
-AnswersOn task names (Fetched.long name limit) answer = answer ≡ too_long_answer name limit
+-- the files of a task are read
+abbrev pub read_for : Files → Task → Fetched
+read_for files task = fetched files (limit_of task.command) [] task.files
 
-abbrev pub AnswersFor : Files → List (List ℕ) → Option Task → Answered → Type 0
-AnswersFor files names None answer = answer ≡ usage_answer
-AnswersFor files names (Some task) answer = AnswersOn task names (fetched files (limit_of task) [] names) answer
+-- what is answered once the files are read, or can't be
+abbrev pub AnswersOn : Task → Fetched → Answered → Type 0
+AnswersOn task (Fetched.whole contents) answer = Decides (causes_of task contents) answer
+AnswersOn task (Fetched.absent name) answer = answer ≡ unread_answer name
+AnswersOn task (Fetched.long name limit) answer = answer ≡ too_long_answer name limit
+
+abbrev pub AnswersFor : Files → Option Task → Answered → Type 0
+AnswersFor files None answer = answer ≡ usage_answer
+AnswersFor files (Some task) answer = AnswersOn task (read_for files task) answer
 
 -- what a list of words answers of these files
 abbrev pub Answers : List (List ℕ) → Files → Answered → Type 0
-Answers words files answer = AnswersFor files (names_of words) (task_of words) answer
-
--- a list of words has an answer of these files
-pub record IsAnswered (words : List (List ℕ)) (files : Files) : Type 0 where
-  pub answer : Answered
-  pub is : Answers words files answer
+Answers words files answer = AnswersFor files (task_of words) answer

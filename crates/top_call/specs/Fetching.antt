@@ -3,7 +3,8 @@ use Rattle.std.specs.Prelude.{◌≡◌, ◌<◌, ◌≤◌, ◌^◌, ◌+◌, �
 use Rattle.gd_host.specs.Outside.{Files, Seen, Rose, HoldsFile}
 use Rattle.gd_host.specs.declared.host.FetchError.{FetchError}
 use Rattle.gd_host.specs.declared.host.FetchError.TheVariants.{Failed, TooLong}
-use Rattle.answers.specs.Decides.{at}
+use Rattle.answers.specs.Commands.{at}
+use Rattle.command_words.specs.Tasks.{Task, limit_of}
 use Rattle.top_call.specs.Answers.{Fetched, fetched}
 
 -- the name at a place is that of a file within its limit
@@ -39,6 +40,16 @@ pub record OnlyReads (old new : Seen) : Type 0 where
 abbrev pub FetchesSo : Option Files → (ℕ → ℕ) → List (List ℕ) → Fetched → Type 0
 FetchesSo told limit names end = (files : Files) → told ≡ Some files → fetched files limit [] names ≡ end
 
+-- files of these names have these contents, each within its limit; where files are told, those are theirs
+pub record Reads (told : Option Files) (limit : ℕ → ℕ) (names contents : List (List ℕ)) : Type 0 where
+  pub each : length contents ≡ length names
+  pub within : (k : ℕ) → k < length names → length (at contents k) ≤ limit k
+  pub of_files : FetchesSo told limit names (Fetched.whole contents)
+
+-- the same of the files of a task
+abbrev pub AreRead : Option Files → Task → List (List ℕ) → Type 0
+AreRead told task contents = Reads told (limit_of task.command) task.files contents
+
 -- the file at a place could not be read: a call of fetch failed, and the name there was the last that was asked for
 pub record IsUnread (names : List (List ℕ)) (place : ℕ) (old new : Seen) : Type 0 where
   pub inside : place < length names
@@ -54,6 +65,7 @@ pub record IsStopped (limit : ℕ → ℕ) (names : List (List ℕ)) (place : �
 -- the files of the first names were read, and the others remain
 pub record HasRead (limit : ℕ → ℕ) (names : List (List ℕ)) (old now : Seen) (read : List (List ℕ)) (place : ℕ) : Type 0 where
   pub count : length read ≡ place
+  pub fits : (k : ℕ) → k < place → length (at read k) ≤ limit k
   pub reaches : (files : Files) → old.files ≡ Some files → fetched files limit [] names ≡ fetched files limit read (drop (length read) names)
   pub within : AllWithin old.files limit names place
   pub short : (k : ℕ) → length (at read k) < 2 ^ 31

@@ -1,4 +1,4 @@
 pub mod Answers
 pub mod Fetching
 pub mod Ending
-pub mod Causes
+pub mod Clauses

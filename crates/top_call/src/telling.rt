@@ -6,7 +6,7 @@ use answers::{Answer, Status};
 use gd_host::Host;
 
 /// Complains of something, in one piece. Nothing changes where that fails.
-pub fn complain<H: Host>(line: &str, host: &mut H)
+pub fn complain<H: Host>(line: &[u8], host: &mut H)
     ensures says { Says line.now (H.seen host.old) (H.seen host.new) }
     ensures files { (H.seen host.new).files ≡ (H.seen host.old).files }
     ensures out { (H.seen host.new).out ≡ (H.seen host.old).out }
@@ -14,7 +14,7 @@ pub fn complain<H: Host>(line: &str, host: &mut H)
     ensures read_faults { (H.seen host.new).read_faults ≡ (H.seen host.old).read_faults }
     ensures write_faults { (H.seen host.new).write_faults ≡ (H.seen host.old).write_faults }
 {
-    let _ = host.complain(line.as_bytes());
+    let _ = host.complain(line);
 }
 
 /// Writes the text of an answer in one piece, or complains with its line.
@@ -24,13 +24,13 @@ pub fn tell<H: Host>(answer: &Answer, host: &mut H) -> Status
     ensures read_faults { (H.seen host.new).read_faults ≡ (H.seen host.old).read_faults }
 {
     if !answer.status().is_written() {
-        complain(answer.line(), host);
+        complain(answer.told(), host);
         return answer.status();
     }
-    match host.emit(answer.text()) {
+    match host.emit(answer.told()) {
         Ok(()) => answer.status(),
         Err(_) => {
-            complain("gadara: cannot write\n", host);
+            complain(b"gadara: cannot write\n", host);
             Status::HostFault
         }
     }

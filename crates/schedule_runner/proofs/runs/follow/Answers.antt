@@ -1,4 +1,4 @@
-use Rattle.std.proofs.Common.{◌≡◌, ℕ, ◌+◌, List, [], ◌∷◌, ◌++◌, length, drop, sym, ap, ◌∙◌, subst, arith}
+use Rattle.std.proofs.Common.{◌≡◌, [], ◌∷◌, ◌++◌, length, drop, sym, ap, ◌∙◌, subst, arith}
 use Rattle.std.proofs.lemmas.List.{length-append}
 use Rattle.std.proofs.lemmas.Option.{slice_get-get_or}
 use Rattle.std.specs.Prelude.{slice_get}
@@ -7,7 +7,7 @@ use Rattle.c_meaning.specs.Shown.{shown}
 use Rattle.c_steps.specs.Model.{state_of}
 use Rattle.schedule_runner.specs.Acts.{act_line}
 use Rattle.schedule_runner.specs.Traces.{IsFollowed, appended}
-use Rattle.schedule_runner.proofs.Follows.{follows_none, follows_more}
+use Rattle.schedule_runner.proofs.Follows.{follows_more}
 use Rattle.schedule_runner.proofs.runs.follow.Goals as goal
 
 pub loop-k-preserved : goal.loop-k-preserved

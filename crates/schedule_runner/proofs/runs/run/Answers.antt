@@ -1,5 +1,5 @@
-use Rattle.std.proofs.Common.{◌≡◌, length, subst}
-use Rattle.c_check.specs.Tables.{numbers, numbers_of}
+use Rattle.std.proofs.Common.{length, subst}
+use Rattle.c_check.specs.Tables.{numbers}
 use Rattle.c_meaning.specs.Shown.{shown}
 use Rattle.c_meaning.specs.State.{start}
 use Rattle.c_steps.specs.Model.{state_of}

@@ -8,7 +8,7 @@ pub returns-then-not-is_written-clause-tells : goal.returns-then-not-is_written-
 returns-then-not-is_written-clause-tells g c =
     let wants : is_written c.args.answer.now.status ≡ false = grind (arith, common_steps) in
     refused_told c.args.answer.now (g.H.Host.seen c.args.host.now) (g.H.Host.seen c.complain.new.host) _ _ wants
-    c.status-then-not-is_written.ensures c.line.ensures c.complain.ensures.out c.complain.ensures.says
+    c.status-then-not-is_written.ensures c.told.ensures c.complain.ensures.out c.complain.ensures.says
 
 pub returns-in-Err-clause-tells : goal.returns-in-Err-clause-tells
 returns-in-Err-clause-tells g c =
@@ -16,4 +16,4 @@ returns-in-Err-clause-tells g c =
     let said = c.complain-in-Err.ensures in
     let wants : is_written c.args.answer.now.status ≡ true = grind (arith, common_steps) in
     unwritten_told c.args.answer.now (g.H.Host.seen c.args.host.now) (g.H.Host.seen c.emit.new.self) (g.H.Host.seen c.complain-in-Err.new.host) _ wants
-    c.text.ensures e.added e.cause.failed e.err e.lost said.out said.write_faults said.says
+    c.told-2.ensures e.added e.cause.failed e.err e.lost said.out said.write_faults said.says

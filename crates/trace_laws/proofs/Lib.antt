@@ -1,0 +1,4 @@
+mod OneTrace
+mod Closed
+mod Holders
+mod EachTrace
