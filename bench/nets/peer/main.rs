@@ -41,6 +41,10 @@ struct Net {
     tokens: [u32; RESOURCES],
     points: Vec<Point>,
     edges: Vec<Edge>,
+    /// Of each point the resources that it holds.
+    holds: Vec<u64>,
+    /// Of each point those that edges along which weights are moved lead from.
+    before: Vec<Vec<u32>>,
 }
 
 /// A block of twelve points: a monitor is taken and then two mutexes, and all are given back.
@@ -75,7 +79,8 @@ fn add_block(net: &mut Net, thread: usize, number: usize) {
 
 fn large_net() -> Net {
     let tokens = std::array::from_fn(|r| if r < MUTEXES { 1 } else { 2 });
-    let mut net = Net { tokens, points: Vec::new(), edges: Vec::new() };
+    let (holds, before) = (Vec::new(), vec![Vec::new(); POINTS]);
+    let mut net = Net { tokens, points: Vec::new(), edges: Vec::new(), holds, before };
     for thread in 0..THREADS {
         for number in 0..BLOCKS {
             add_block(&mut net, thread, number);
@@ -85,6 +90,12 @@ fn large_net() -> Net {
         net.points.push(Point { thread: THREADS - 1, held: [0; RESOURCES] });
     }
     net.edges.sort_by_key(|e| e.from);
+    for p in &net.points {
+        net.holds.push((0..RESOURCES).filter(|r| p.held[*r] > 0).map(|r| 1 << r).sum());
+    }
+    for e in net.edges.iter().filter(|e| !matches!(e.op, Op::Take(_))) {
+        net.before[e.to].push(e.from as u32);
+    }
     net
 }
 
@@ -146,6 +157,41 @@ impl Net {
     }
 }
 
+impl Net {
+    /// The weight of each point: what it holds of the set, and one less in the set's least siphon.
+    fn weights(&self, set: u64, siphon: &mut [bool]) -> Vec<u64> {
+        self.least_siphon(set, siphon);
+        let mut weights = vec![0; POINTS];
+        for (p, weight) in weights.iter_mut().enumerate() {
+            let mut held = self.holds[p] & set;
+            while held != 0 {
+                *weight += u64::from(self.points[p].held[held.trailing_zeros() as usize]);
+                held &= held - 1;
+            }
+            *weight -= u64::from(siphon[p]);
+        }
+        weights
+    }
+
+    /// The moved weights: from the greatest weight on, each goes back as far as numbers are lower.
+    fn moved(&self, weights: &[u64]) -> Vec<u64> {
+        let mut moved = vec![0; POINTS];
+        let mut order: Vec<(u64, u32)> = (0..).zip(weights).map(|(p, w)| (*w, p)).filter(|x| x.0 > 0).collect();
+        order.sort_unstable_by(|a, b| b.cmp(a));
+        let mut todo = Vec::new();
+        for (weight, point) in order {
+            todo.push(point);
+            while let Some(p) = todo.pop() {
+                if moved[p as usize] < weight {
+                    moved[p as usize] = weight;
+                    todo.extend(&self.before[p as usize]);
+                }
+            }
+        }
+        moved
+    }
+}
+
 /// Sets of two mutexes with no line, of a mutex and a monitor with a line of another kind than the first, and of 14
 /// and of all resources.
 const SETS: [u64; 4] = [1 << 1 | 1 << 17, 1 << 1 | 1 << 53, 0x3fff, u64::MAX];
@@ -181,6 +227,12 @@ fn answer(net: &Net, set: u64, line: Option<Kind>) -> String {
     }
 }
 
+fn written_numbers(numbers: &[u64]) -> String {
+    let above = (0..).zip(numbers).filter(|x| *x.1 > 0);
+    let words: String = above.map(|(p, number): (usize, _)| format!(" {p}:{number}")).collect();
+    if words.is_empty() { " none".to_string() } else { words }
+}
+
 fn table(net: &Net, times: u32) {
     let monitors = vec!["2"; RESOURCES - MUTEXES].join(" ");
     println!("# {} points, {} edges.", net.points.len(), net.edges.len());
@@ -196,8 +248,12 @@ fn table(net: &Net, times: u32) {
         let places = places.map(|p| if p < POINTS { format!(" {p}") } else { format!(" r{}", p - POINTS) });
         println!("siphon {} ~{}", words(set), places.collect::<String>());
         println!("first {} ~ {}", words(set), answer(net, set, line));
-        println!("measure {times} siphon {}", words(set));
-        println!("measure {times} first {}", words(set));
+        let weights = net.weights(set, &mut siphon);
+        println!("weights {} ~{}", words(set), written_numbers(&weights));
+        println!("moved {} ~{}", words(set), written_numbers(&net.moved(&weights)));
+        for call in ["siphon", "first", "weights", "moved"] {
+            println!("measure {times} {call} {}", words(set));
+        }
     }
 }
 
@@ -214,6 +270,17 @@ fn measure(net: &Net, times: u32) {
             black_box(net.first_line(black_box(set), &mut siphon));
         }
         println!("first {}: {} ns", words(set), start.elapsed().as_nanos() / u128::from(times));
+        let start = Instant::now();
+        for _ in 0..times {
+            black_box(net.weights(black_box(set), &mut siphon));
+        }
+        println!("weights {}: {} ns", words(set), start.elapsed().as_nanos() / u128::from(times));
+        let weights = net.weights(set, &mut siphon);
+        let start = Instant::now();
+        for _ in 0..times {
+            black_box(net.moved(black_box(&weights)));
+        }
+        println!("moved {}: {} ns", words(set), start.elapsed().as_nanos() / u128::from(times));
     }
 }
 

@@ -6,3 +6,4 @@ pub mod Bits
 pub mod Reaching
 pub mod Bounding
 pub mod Generals
+pub mod Leading

@@ -7,3 +7,4 @@ pub mod Sums
 pub mod Bounds
 pub mod Measured
 pub mod Sets
+pub mod Into

@@ -18,7 +18,7 @@ pub mod laws;
 mod lines;
 mod marks;
 mod net;
-mod sets;
+pub mod sets;
 mod siphons;
 mod sums;
 mod work;
@@ -29,4 +29,4 @@ use sqlite_items::Items;
 pub use work::Work;
 
 /// A weight for each point, in the order of the points.
-pub type Weights = Items<u32>;
+pub type Weights = Items<u64>;

@@ -1,10 +1,12 @@
 // Nets.
-ghost use Rattle.std.specs.Prelude.{◌≡◌, ℕ, ◌+◌, ◌<◌, length, IfOk, slice_get, Some, IsTrue, ◌↔◌, slice_index, MatchOption};
+ghost use Rattle.edges.specs.declared.Edge.{Edge as AnyEdge};
+ghost use Rattle.std.specs.Prelude.{◌≡◌, ℕ, ◌+◌, ◌<◌, ◌≤◌, length, IfOk, slice_get, Some, IsTrue, ◌↔◌, slice_index, MatchOption};
 ghost use Rattle.net_laws.specs.Siphons.{HasPlace};
 ghost use Rattle.net_laws.specs.Candidates.{members, arc, InComponent};
 ghost use Rattle.net_laws.specs.Lines.{Holds, IsBad};
 ghost use Rattle.gadara_net.specs.Bounds.{IsFirst, general_of};
 ghost use Rattle.gadara_net.specs.Flows.{IsFlow, NamesResources, flow_net, targets_of};
+ghost use Rattle.gadara_net.specs.Into.{IsLastTo};
 
 use crate::chains::Chains;
 use crate::flow::Flow;
@@ -159,29 +161,48 @@ impl Net {
         self.flow.edges.as_slice()[n as usize]
     }
 
+    /// The last edge that leads to a point, which is below `points()`.
+    pub fn last_edge_to(&self, point: u32) -> Option<u32>
+        requires { point < length self.now.points }
+        ensures { IsLastTo self.now.edges point (length self.now.edges) result }
+    {
+        match self.into.last[point as usize] {
+            0 => None,
+            after => Some(after - 1),
+        }
+    }
+
+    /// The last edge before another one, which is below `edges()`, that leads to the same point.
+    pub fn edge_before(&self, n: u32) -> Option<u32>
+        requires { n < length self.now.edges }
+        ensures { (e : AnyEdge) → slice_get self.now.edges n ≡ Some e →
+            IsLastTo self.now.edges e.to n result }
+    {
+        match self.into.before[n as usize] {
+            0 => None,
+            after => Some(after - 1),
+        }
+    }
+
     /// Leaves in `out` the places of the least siphon of a set of resources: the set itself, and
     /// each point from which a path that takes none of it reaches a release of one of it.
     ///
-    /// `resources` names resources of the net, `out` has the size `places()`, and `work` is for its
-    /// points. A work list goes backwards over the edges, so that the time is linear in the points
-    /// and edges. (Siphons and traps: Barkaoui and Pradat-Peyre, On Liveness and Controlled Siphons
-    /// in Petri Nets.)
+    /// `resources` names resources of the net, `out` has the size `places()`, and `work` has room
+    /// for its points. A work list goes backwards over the edges, so that the time is linear in the
+    /// points and edges. (Siphons and traps: Barkaoui and Pradat-Peyre, On Liveness and Controlled
+    /// Siphons in Petri Nets.)
     pub fn least_siphon<S: PlaceSet>(&self, resources: u64, out: &mut S, work: &mut Work)
         requires named { NamesResources self.now resources }
         requires size { S.bound out.old ≡ length self.now.points + length self.now.tokens }
-        requires room { work.old ≡ length self.now.points }
+        requires room { length self.now.points ≤ work.old }
         ensures size { S.bound out.new ≡ S.bound out.old }
         ensures room { work.new ≡ work.old }
         ensures places { (place : ℕ) → IsTrue (S.places out.new place) ↔
             HasPlace (flow_net self.now) (members resources) place }
     {
-        fill_siphon(
-            &self.flow,
-            &self.into,
-            resources,
-            out,
-            work.row.as_mut_slice(),
-        );
+        let points = self.flow.points.len();
+        let row = &mut work.row.as_mut_slice()[..points];
+        fill_siphon(&self.flow, &self.into, resources, out, row);
     }
 
     /// Leaves in `out` what `least_siphon` leaves, where a set of places is known in which the
@@ -199,7 +220,7 @@ impl Net {
         requires within { (place : ℕ) → HasPlace (flow_net self.now) (members resources) place →
             IsTrue (S.places bound.now place) }
         requires size { S.bound out.old ≡ length self.now.points + length self.now.tokens }
-        requires room { work.old ≡ length self.now.points }
+        requires room { length self.now.points ≤ work.old }
         ensures size { S.bound out.new ≡ S.bound out.old }
         ensures room { work.new ≡ work.old }
         ensures places { (place : ℕ) → IsTrue (S.places out.new place) ↔

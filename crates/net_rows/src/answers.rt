@@ -8,12 +8,12 @@ use place_sets::{BitRow, ListSet, PlaceSet};
 use std::alloc::{AllocError, Global};
 
 /// The text without blanks at its end.
-fn trimmed(alloc: Global, text: &str) -> Result<String, AllocError> {
+pub fn trimmed(alloc: Global, text: &str) -> Result<String, AllocError> {
     String::from_str(alloc, text.trim_end())
 }
 
 /// The members of a set of resources, in ascending order.
-fn members(alloc: Global, before: &str, resources: u64) -> Result<String, AllocError> {
+pub fn members(alloc: Global, before: &str, resources: u64) -> Result<String, AllocError> {
     let mut text = String::new(alloc);
     for r in 0..64u32 {
         if resources >> r & 1 == 1 {

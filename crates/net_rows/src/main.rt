@@ -8,12 +8,20 @@
 //! net THREADS MUTEXES [TOKENS ..]    a net: its threads, its mutexes, and the tokens of each monitor behind them
 //!  THREAD LINE [waiting] [R:COUNT ..] [~ plain TO] [~ OP R TO] ..
 //!                                    a point: what it holds, and its edges, `OP` being acquire, try, reacquire or release
+//! locks MUTEXES ~ R .., R .. ~ ..     a net: each thread locks nests of mutexes, and unlocks from the last to the first
 //! arcs ~ R-S ..                      the arcs of hold-and-wait
 //! component R ~ S ..                 the strong component of a resource
 //! siphon R .. ~ PLACE ..             the least siphon of a set of resources: points, and resources as `r2`
 //! first R .. ~ KIND; KIND            the first line that holds for a set, and it as a general line, or none
 //! line R .. by KIND ~ holds          whether a line holds, or fails
-//! measure TIMES siphon R ..          prints how long the call takes, in nanoseconds; so for `first`
+//! candidates ~ R ..; R ..            the candidates in order
+//! check R .. by KIND; .. ~ valid     what is found of a certificate of these lines
+//! weights R .. ~ POINT:NUMBER ..     the weights for a set that aren't 0; so for `moved` and `entry`
+//! waiting R .. ~ POINT               the first point at which a thread waits and whose moved weight isn't 0
+//! capacity R .. ~ NUMBER             the capacity of a monitor for a set
+//! minimal LIMIT ~ R ..; R ..         the minimal sets in order; or those listed and why not more
+//! measure TIMES siphon R ..          prints how long the call takes, in nanoseconds; so for `first`, `weights`, `moved`,
+//!                                    `minimal` and `check`
 //! ```
 //!
 //! A kind is `thread I`, `guard R`, `monitor R` or `times D, resource R FACTOR, thread I FACTOR`, with any number of
@@ -21,12 +29,16 @@
 #![tactic(auto)]
 
 mod answers;
+mod checks;
 mod items;
 mod lines;
+mod locks;
 mod measure;
 mod nets;
 mod report;
 mod rows;
+mod siphons;
+mod weights;
 
 use report::Report;
 use rows::judge;

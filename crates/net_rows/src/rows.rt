@@ -1,11 +1,15 @@
 // The rows of a table, one after the other.
 
 use crate::answers::{arcs, component, first, judged, siphon};
+use crate::checks::{checked, listed};
 use crate::items::{fields, is_inner, is_silent, number, worded};
 use crate::lines::{kind_of, mask_of};
+use crate::locks::net_of_locks;
 use crate::measure::measured;
 use crate::nets::net_of;
 use crate::report::Report;
+use crate::siphons::minimal;
+use crate::weights::said_of_weights;
 use flow_checks::names_resources;
 use gadara_net::Net;
 use std::alloc::{AllocError, Global};
@@ -22,6 +26,9 @@ fn said_of_set(alloc: Global, net: &Net, word: &str, text: &str) -> Result<Strin
     match word {
         "siphon" => siphon(alloc, net, resources),
         "first" => first(alloc, net, resources),
+        "weights" | "moved" | "entry" | "waiting" | "capacity" => {
+            said_of_weights(alloc, net, word, resources)
+        }
         _ => String::from_str(alloc, "no question"),
     }
 }
@@ -41,8 +48,11 @@ fn said(alloc: Global, net: &Net, question: &str) -> Result<String, AllocError> 
     let (word, text) = worded(question);
     match word {
         "arcs" => arcs(alloc, net),
+        "candidates" => listed(alloc, net),
+        "check" => checked(alloc, net, text),
         "component" => component(alloc, net, number(text).unwrap_or(u32::MAX)),
         "line" => said_of_line(alloc, net, text),
+        "minimal" => minimal(alloc, net, number(text).unwrap_or(u32::MAX)),
         _ => said_of_set(alloc, net, word, text),
     }
 }
@@ -85,8 +95,13 @@ impl Scene {
     ) -> io::Result<()> {
         let alloc = rt.alloc();
         let (word, rest) = worded(head);
-        if word == "net" {
-            self.net = net_of(alloc, rest, block)?;
+        let made = match word {
+            "net" => Some(net_of(alloc, rest, block)?),
+            "locks" => Some(net_of_locks(alloc, rest)?),
+            _ => None,
+        };
+        if let Some(net) = made {
+            self.net = net;
             if self.net.is_none() {
                 report.unread(alloc, head)?;
             }

@@ -155,7 +155,8 @@ empty_next n net e has (Release q) is quiet none r =
     let gave : gives e.op q ≡ true = subst (λ o. gives o q ≡ true) (sym is) (eq-eqb q q refl) in
     absurd (omega (arith, net.accounts e q has, none q, ap one gave, ap (λ o. one (takes o q)) is))
 
-total_none : (k : ℕ) (R : ℕ → Bool) (f : ℕ → ℕ) → ((r : ℕ) → f r ≡ 0) → total k R f ≡ 0
+-- a sum of nothing
+pub total_none : (k : ℕ) (R : ℕ → Bool) (f : ℕ → ℕ) → ((r : ℕ) → f r ≡ 0) → total k R f ≡ 0
 total_none zero R f none = refl
 total_none (suc k) R f none =
     ⊎_elim

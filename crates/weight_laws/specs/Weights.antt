@@ -35,10 +35,14 @@ abbrev pub Follows : Net → ℕ → ℕ → ℕ → Type 0
 Follows n p q zero = p ≡ q
 Follows n p q (suc k) = (e : Edge) × HasEdge n e × (e.from ≡ p) × IsTrue (follows n e) × Follows n e.to q k
 
--- m is at each point the greatest weight of it and of the points that such edges lead to
-pub record IsMoved (n : Net) (R S : ℕ → Bool) (m : ℕ → ℕ) : Type 0 where
-  pub bound : (k p q : ℕ) → Follows n p q k → weight n R S q ≤ m p
-  pub met : (p : ℕ) → (k q : ℕ) × Follows n p q k × (weight n R S q ≡ m p)
+-- m is at each point the greatest of the numbers w at it and at the points that such edges lead to
+pub record IsMovedFrom (n : Net) (w m : ℕ → ℕ) : Type 0 where
+  pub bound : (k p q : ℕ) → Follows n p q k → w q ≤ m p
+  pub met : (p : ℕ) → (k q : ℕ) × Follows n p q k × (w q ≡ m p)
+
+-- m is at each point its moved weight for R
+abbrev pub IsMoved : Net → (ℕ → Bool) → (ℕ → Bool) → (ℕ → ℕ) → Type 0
+IsMoved n R S = IsMovedFrom n (weight n R S)
 
 -- the entry weight of a point: the greatest of the moved weights at it and behind its edges
 pub record IsEntry (n : Net) (m entry : ℕ → ℕ) : Type 0 where

@@ -1,0 +1,11 @@
+pub mod Numbers
+pub mod Bitwise
+pub mod Choices
+pub mod Order
+pub mod Inside
+pub mod Lying
+pub mod Large
+pub mod Walks
+pub mod Kept
+pub mod Searching
+pub mod Listed

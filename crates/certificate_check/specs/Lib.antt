@@ -1,0 +1,4 @@
+pub mod Judged
+pub mod Covering
+pub mod Answers
+pub mod Making

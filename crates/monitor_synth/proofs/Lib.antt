@@ -1,0 +1,3 @@
+pub mod WeightSums
+pub mod Rising
+pub mod OfSets

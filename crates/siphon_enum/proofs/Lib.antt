@@ -1,0 +1,4 @@
+pub mod Judged
+pub mod Rows
+pub mod Further
+pub mod Large
