@@ -8,3 +8,4 @@ pub mod Bounds
 pub mod Measured
 pub mod Sets
 pub mod Into
+pub mod PointRows

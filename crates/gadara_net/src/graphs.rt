@@ -21,7 +21,7 @@ fn taken(op: EdgeOp) -> Option<u32>
 }
 
 /// The row with one more target, where tokens are held.
-fn with_target(row: u64, held: u32, target: u32) -> u64
+pub fn with_target(row: u64, held: u32, target: u32) -> u64
     requires { target < 64 }
     ensures { (s : ℕ) → members result s ≡ (members row s || (nat_lt 0 held && target == s)) }
 {

@@ -18,6 +18,7 @@ pub mod laws;
 mod lines;
 mod marks;
 mod net;
+mod point_rows;
 pub mod sets;
 mod siphons;
 mod sums;

@@ -1,17 +1,19 @@
 // Nets.
 ghost use Rattle.edges.specs.declared.Edge.{Edge as AnyEdge};
-ghost use Rattle.std.specs.Prelude.{◌≡◌, ℕ, ◌+◌, ◌<◌, ◌≤◌, length, IfOk, slice_get, Some, IsTrue, ◌↔◌, slice_index, MatchOption};
+ghost use Rattle.std.specs.Prelude.{◌≡◌, ℕ, ◌+◌, ◌<◌, ◌≤◌, length, IfOk, slice_get, Some, IsTrue, ◌↔◌, slice_index, MatchOption, nat_lt};
 ghost use Rattle.net_laws.specs.Siphons.{HasPlace};
 ghost use Rattle.net_laws.specs.Candidates.{members, arc, InComponent};
 ghost use Rattle.net_laws.specs.Lines.{Holds, IsBad};
 ghost use Rattle.gadara_net.specs.Bounds.{IsFirst, general_of};
 ghost use Rattle.gadara_net.specs.Flows.{IsFlow, NamesResources, flow_net, targets_of};
 ghost use Rattle.gadara_net.specs.Into.{IsLastTo};
+ghost use Rattle.weight_laws.specs.Flow.{tries};
 
 use crate::chains::Chains;
 use crate::flow::Flow;
 use crate::graphs::{arcs, join_all, mutual};
 use crate::lines::{first_kind, general_kind, kind_holds, measure};
+use crate::point_rows::PointRows;
 use crate::sets::{are_below, has_members};
 use crate::siphons::fill_siphon;
 use crate::sums::sum_of;
@@ -30,6 +32,7 @@ use std::marker::Model;
 pub struct Net {
     flow: Flow,
     into: Chains,
+    rows: PointRows,
 }
 
 impl Model for Net {
@@ -40,10 +43,12 @@ impl Model for Net {
 
     ghost use Rattle.gadara_net.specs.Flows.{IsFlow};
     ghost use Rattle.gadara_net.specs.Indexed.{IsIndexOf};
+    ghost use Rattle.gadara_net.specs.PointRows.{AreNoted};
 
     ghost view = { λ net. net.flow };
 
-    ghost invariant = { λ net. IsFlow net.flow × IsIndexOf net.into net.flow };
+    ghost invariant = { λ net. IsFlow net.flow × IsIndexOf net.into net.flow ×
+        AreNoted net.rows net.flow };
 }
 
 /// The points that the edges lead to.
@@ -67,7 +72,8 @@ impl Net {
     {
         let targets = targets(alloc, flow.edges.as_slice())?;
         let into = Chains::new(alloc, &targets, flow.points.len() as u32)?;
-        Ok(Net { flow, into })
+        let rows = PointRows::new(alloc, &flow)?;
+        Ok(Net { flow, into, rows })
     }
 
     /// Law: the flow that a net was made from keeps what was asked of it.
@@ -144,6 +150,22 @@ impl Net {
         ensures { result ≡ (flow_net self.now).held point r }
     {
         self.flow.points.as_slice()[point as usize].held.as_slice()[r as usize]
+    }
+
+    /// The set of the resources of which a token is held at a point, which is below `points()`.
+    pub fn held_set(&self, point: u32) -> u64
+        requires { point < length self.now.points }
+        ensures { (r : ℕ) → members result r ≡ nat_lt 0 ((flow_net self.now).held point r) }
+    {
+        self.rows.held[point as usize]
+    }
+
+    /// Whether a lock is tried at a point, which is below `points()`.
+    pub fn tries(&self, point: u32) -> bool
+        requires { point < length self.now.points }
+        ensures { result ≡ tries (flow_net self.now) point }
+    {
+        self.rows.tried[point as usize]
     }
 
     /// How many edges there are.

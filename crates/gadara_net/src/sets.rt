@@ -44,3 +44,11 @@ pub fn union(one: u64, other: u64) -> u64
 {
     one | other
 }
+
+/// Whether two sets have a resource in common.
+pub fn have_common(one: u64, other: u64) -> bool
+    ensures { IsTrue result ↔
+        ((r : ℕ) × IsTrue (members one r) × IsTrue (members other r)) }
+{
+    has_members(one & other)
+}

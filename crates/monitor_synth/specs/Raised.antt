@@ -1,14 +1,8 @@
 -- Numbers of points that are raised along followed edges, and the points that are to be done.
-use Rattle.std.specs.Prelude.{◌≡◌, ℕ, ◌+◌, ◌-◌, ◌<◌, ◌≤◌, ◌^◌, Bool, List, length, slice_get, Some, sum_by, Contains, IsTrue, ◌⊎◌}
+use Rattle.std.specs.Prelude.{◌≡◌, ℕ, ◌+◌, ◌-◌, ◌≤◌, ◌^◌, List, length, sum_by, Contains, IsTrue, ◌⊎◌}
 use Rattle.edges.specs.declared.Edge.{Edge}
 use Rattle.net_laws.specs.Net.{Net, HasEdge}
-use Rattle.weight_laws.specs.Flow.{tries}
 use Rattle.weight_laws.specs.Weights.{follows, Follows}
-
--- for each point, whether a lock is tried there
-pub record AreTried (n : Net) (tried : List Bool) : Type 0 where
-  pub each : length tried ≡ n.points
-  pub exact : (p : ℕ) → p < n.points → slice_get tried p ≡ Some (tries n p)
 
 -- m is w or more at each point, and is w at one of the points that followed edges lead to
 pub record AreReached (n : Net) (w m : ℕ → ℕ) : Type 0 where

@@ -11,11 +11,11 @@
 #![tactic(auto)]
 
 mod entries;
+mod followed;
 pub mod laws;
 mod move_back;
 mod order;
 mod raise;
-mod tried;
 mod waits;
 mod weigh;
 

@@ -5,7 +5,6 @@ ghost use Rattle.weight_laws.specs.Weights.{IsMovedFrom};
 
 use crate::order::places_by_number;
 use crate::raise::raise_all;
-use crate::tried::tried_points;
 use gadara_net::{Net, Weights};
 use sqlite_items::Items;
 use std::alloc::{AllocError, Global};
@@ -23,9 +22,8 @@ pub fn moved(alloc: Global, n: &Net, w: &Weights) -> Result<Weights, AllocError>
         (λ m. IsMovedFrom (flow_net n.now) (slice_index w.now) (slice_index m)) }
 {
     n.keeps_flow();
-    let tried = tried_points(alloc, n)?;
     let mut todo = places_by_number(alloc, w.as_slice())?;
     let mut moved = Vec::from_slice(alloc, w.as_slice())?;
-    raise_all(n, &tried, &mut moved, &mut todo)?;
+    raise_all(n, &mut moved, &mut todo)?;
     Ok(Items::from_vec(moved))
 }

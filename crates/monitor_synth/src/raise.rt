@@ -3,9 +3,9 @@ ghost use Rattle.std.specs.Prelude.{◌≡◌, ℕ, ◌<◌, ◌≤◌, length, 
 ghost use Rattle.net_laws.specs.Net.{HasEdge};
 ghost use Rattle.gadara_net.specs.Flows.{flow_net};
 ghost use Rattle.weight_laws.specs.Weights.{follows};
-ghost use Rattle.monitor_synth.specs.Raised.{AreTried, AreReached, IsSettled, AreSettledBut, HaveRisen, work_left};
+ghost use Rattle.monitor_synth.specs.Raised.{AreReached, IsSettled, AreSettledBut, HaveRisen, work_left};
 
-use crate::tried::is_followed;
+use crate::followed::is_followed;
 use edges::Edge;
 use gadara_net::Net;
 use std::alloc::AllocError;
@@ -15,13 +15,11 @@ use std::alloc::AllocError;
 fn raise(
     n: &Net,
     edge: Edge,
-    tried: &[bool],
     level: u64,
     moved: &mut [u64],
     todo: &mut Vec<u32>,
 ) -> Result<(), AllocError>
     requires edge { HasEdge (flow_net n.now) edge }
-    requires tried { AreTried (flow_net n.now) tried.now }
     requires each { length moved.old ≡ length n.now.points }
     requires level { slice_index moved.old edge.to ≡ level }
     requires below { All (λ p. p < length n.now.points) todo.old.items }
@@ -43,7 +41,7 @@ fn raise(
     if level <= moved[from] {
         return Ok(());
     }
-    if !is_followed(n, edge, tried) {
+    if !is_followed(n, edge) {
         return Ok(());
     }
     todo.push(edge.from)?;
@@ -55,12 +53,10 @@ fn raise(
 /// one's.
 fn raise_before(
     n: &Net,
-    tried: &[bool],
     point: u32,
     moved: &mut [u64],
     todo: &mut Vec<u32>,
 ) -> Result<(), AllocError>
-    requires tried { AreTried (flow_net n.now) tried.now }
     requires point { point < length n.now.points }
     requires each { length moved.old ≡ length n.now.points }
     requires below { All (λ p. p < length n.now.points) todo.old.items }
@@ -77,20 +73,14 @@ fn raise_before(
     let level = moved[point as usize];
     let mut next = n.last_edge_to(point);
     while let Some(k) = next {
-        raise(n, n.edge(k), tried, level, moved, todo)?;
+        raise(n, n.edge(k), level, moved, todo)?;
         next = n.edge_before(k);
     }
     Ok(())
 }
 
 /// Raises numbers until none is below one behind a followed edge.
-pub fn raise_all(
-    n: &Net,
-    tried: &[bool],
-    moved: &mut [u64],
-    todo: &mut Vec<u32>,
-) -> Result<(), AllocError>
-    requires tried { AreTried (flow_net n.now) tried.now }
+pub fn raise_all(n: &Net, moved: &mut [u64], todo: &mut Vec<u32>) -> Result<(), AllocError>
     requires each { length moved.old ≡ length n.now.points }
     requires below { All (λ p. p < length n.now.points) todo.old.items }
     requires settled { AreSettledBut (flow_net n.now) (slice_index moved.old) todo.old.items }
@@ -101,7 +91,7 @@ pub fn raise_all(
         IsSettled (flow_net n.now) (slice_index moved.new) p) }
 {
     while let Some(point) = todo.pop() {
-        raise_before(n, tried, point, moved, todo)?;
+        raise_before(n, point, moved, todo)?;
     }
     Ok(())
 }

@@ -1,12 +1,12 @@
 // Weights of points for a set of resources.
-ghost use Rattle.std.specs.Prelude.{◌≡◌, ℕ, ◌-◌, ◌*◌, ◌<◌, ◌≤◌, ◌^◌, length, slice_index, sum_by, All, IfOk, if◌then◌else◌};
+ghost use Rattle.std.specs.Prelude.{◌≡◌, ℕ, ◌-◌, ◌*◌, ◌<◌, ◌≤◌, ◌^◌, length, slice_index, sum_by, All, IfOk, IsTrue, if◌then◌else◌};
 ghost use Rattle.net_laws.specs.Candidates.{members};
 ghost use Rattle.net_laws.specs.Lines.{total, tokens_of};
 ghost use Rattle.net_laws.specs.Net.{one};
 ghost use Rattle.gadara_net.specs.Flows.{NamesResources, flow_net};
 ghost use Rattle.monitor_synth.specs.Weighed.{AreWeights};
 
-use gadara_net::sets::is_member;
+use gadara_net::sets::{have_common, is_member};
 use gadara_net::{Net, Weights, Work};
 use place_sets::{BitRow, PlaceSet};
 use sqlite_items::Items;
@@ -16,6 +16,8 @@ use std::alloc::{AllocError, Global};
 fn members_of(alloc: Global, n: &Net, resources: u64) -> Result<Vec<u32>, AllocError>
     ensures below { IfOk result (λ list. All (λ r. r < length n.now.tokens) list.items) }
     ensures few { IfOk result (λ list. length list.items ≤ 64) }
+    ensures named { IfOk result
+        (λ list. All (λ r. IsTrue (members resources r)) list.items) }
     ensures sums { IfOk result (λ list. (f : ℕ → ℕ) →
         sum_by f list.items ≡ total (length n.now.tokens) (members resources) f) }
 {
@@ -43,6 +45,20 @@ fn held_at(n: &Net, list: &[u32], point: u32) -> u64
     sum
 }
 
+/// The same of a set, whose members are listed: nothing where the point holds none of them.
+fn held_of(n: &Net, resources: u64, list: &[u32], point: u32) -> u64
+    requires point { point < length n.now.points }
+    requires below { All (λ r. r < length n.now.tokens) list.now }
+    requires few { length list.now ≤ 64 }
+    requires named { All (λ r. IsTrue (members resources r)) list.now }
+    ensures { result ≡ sum_by (λ r. (flow_net n.now).held point r) list.now }
+{
+    if !have_common(n.held_set(point), resources) {
+        return 0;
+    }
+    held_at(n, list, point)
+}
+
 /// What is held, and one less inside the least siphon.
 fn weight_of(held: u64, inside: bool) -> u64
     ensures { result ≡ held - one inside }
@@ -54,11 +70,13 @@ fn weight_of(held: u64, inside: bool) -> u64
 fn weigh<S: PlaceSet>(
     alloc: Global,
     n: &Net,
+    resources: u64,
     list: &[u32],
     siphon: &S,
 ) -> Result<Weights, AllocError>
     requires below { All (λ r. r < length n.now.tokens) list.now }
     requires few { length list.now ≤ 64 }
+    requires named { All (λ r. IsTrue (members resources r)) list.now }
     requires bound { length n.now.points ≤ S.bound siphon.now }
     ensures each { IfOk result (λ w. length w ≡ length n.now.points) }
     ensures weights { IfOk result (λ w. (p : ℕ) → p < length n.now.points → slice_index w p ≡
@@ -66,7 +84,7 @@ fn weigh<S: PlaceSet>(
 {
     let mut weights = Vec::with_capacity(alloc, n.points() as usize)?;
     for p in 0..n.points() {
-        weights.push(weight_of(held_at(n, list, p), siphon.has(p)))?;
+        weights.push(weight_of(held_of(n, resources, list, p), siphon.has(p)))?;
     }
     Ok(Items::from_vec(weights))
 }
@@ -87,7 +105,7 @@ pub fn weights(alloc: Global, n: &Net, resources: u64) -> Result<Weights, AllocE
     let mut work = Work::new(alloc, n.points())?;
     let mut siphon = BitRow::empty(alloc, n.places())?;
     n.least_siphon(resources, &mut siphon, &mut work);
-    weigh(alloc, n, &list, &siphon)
+    weigh(alloc, n, resources, &list, &siphon)
 }
 
 /// The tokens of a resource where it is in the set, or 0.
