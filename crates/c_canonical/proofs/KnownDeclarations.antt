@@ -23,80 +23,83 @@ negative_known : (k : ℕ) → k ≤ largest → IsWritableValue (neg_ℤ (pos k
 negative_known zero f = f
 negative_known (suc k) f = f
 
-value_known : Knows ℤ IsWritableValue SpellsValue
-value_known _ _ _ d.plain s = s
-value_known _ _ _ (d.negative {k = k}) s = (negative_known k s.1.0, s.1.1)
+abbrev FineValue : Type 0 → ℤ → Type 0
+FineValue Bounded v = Bounded → IsWritableValue v
+
+value_known : (Bounded : Type 0) → Knows Bounded ℤ (FineValue Bounded) SpellsValue
+value_known Bounded _ _ _ d.plain s = s
+value_known Bounded _ _ _ (d.negative {k = k}) s = (λ u. negative_known k (s.1.0 u), s.1.1)
 
 -- ---- scalars and arrays
 
-abbrev pub FineCell : bare.Cell → Type 0
-FineCell x = ShapedCell x × IsWritableCell x
+abbrev pub FineCell : Type 0 → bare.Cell → Type 0
+FineCell Bounded x = ShapedCell x × (Bounded → IsWritableCell x)
 
-abbrev pub FineArray : bare.Array → Type 0
-FineArray x = ShapedArray x × IsWritableArray x
+abbrev pub FineArray : Type 0 → bare.Array → Type 0
+FineArray Bounded x = ShapedArray x × (Bounded → IsWritableArray x)
 
-abbrev FineDeclared : Declared → Type 0
-FineDeclared (d.Scalar x) = FineCell (bare_cell x)
-FineDeclared (d.Several x) = FineArray (bare_array x)
+abbrev FineDeclared : Type 0 → Declared → Type 0
+FineDeclared Bounded (d.Scalar x) = FineCell Bounded (bare_cell x)
+FineDeclared Bounded (d.Several x) = FineArray Bounded (bare_array x)
 
-cell_known : Knows Declared FineDeclared SpellsCell
-cell_known _ _ _ (d.scalar {a = a} {n = n} q) s = let m = cell_name_known a n s.0 q in ((m.0, (m.1, omega arith)), s.1)
-cell_known _ _ _ (d.scalar_by {a = a} {n = n} q h) s =
+cell_known : (Bounded : Type 0) → Knows Bounded Declared (FineDeclared Bounded) SpellsCell
+cell_known Bounded _ _ _ (d.scalar {a = a} {n = n} q) s = let m = cell_name_known a n s.0 q in ((m.0, λ u. (m.1 u, omega arith)), s.1)
+cell_known Bounded _ _ _ (d.scalar_by {a = a} {n = n} q h) s =
     let m = cell_name_known a n s.0 q in
-    let v = value_known _ _ _ h s.1.1 in
-    ((m.0, (m.1, v.0)), v.1)
-cell_known _ _ _ (d.array {a = a} {n = n} q) s =
-    let m = cell_name_known a n s.0 q in ((m.0, (m.1, s.1.1.0, all_nil IsWritableValue)), s.1.1.1.1)
-cell_known _ _ _ (d.array_by {a = a} {n = n} q h) s =
+    let v = value_known Bounded _ _ _ h s.1.1 in
+    ((m.0, λ u. (m.1 u, v.0 u)), v.1)
+cell_known Bounded _ _ _ (d.array {a = a} {n = n} q) s =
+    let m = cell_name_known a n s.0 q in ((m.0, λ u. (m.1 u, s.1.1.0 u, all_nil IsWritableValue)), s.1.1.1.1)
+cell_known Bounded _ _ _ (d.array_by {a = a} {n = n} q h) s =
     let m = cell_name_known a n s.0 q in
-    let v = commas_known IsWritableValue SpellsValue value_known h s.1.1.1.1.1.1 in
-    ((m.0, (m.1, s.1.1.0, v.0)), v.1.1)
+    let v = commas_known (FineValue Bounded) SpellsValue (value_known Bounded) h s.1.1.1.1.1.1 in
+    ((m.0, λ u. (m.1 u, s.1.1.0 u, λ k d l. v.0 k d l u)), v.1.1)
 
 -- What is known of declarations, and of the items after them.
-pub record KnownCells (all : List Declared) (rest : List Item) : Type 0 where
-  pub ints : All FineCell (map bare_cell (scalars all))
-  pub arrays : All FineArray (map bare_array (arrays all))
-  pub after : Seen rest
+pub record KnownCells (Bounded : Type 0) (all : List Declared) (rest : List Item) : Type 0 where
+  pub ints : All (FineCell Bounded) (map bare_cell (scalars all))
+  pub arrays : All (FineArray Bounded) (map bare_array (arrays all))
+  pub after : Seen Bounded rest
 
-fine_cells : (all : List Declared) → All FineDeclared all → All FineCell (map bare_cell (scalars all))
-fine_cells [] f = all_nil FineCell
-fine_cells (d.Scalar x ∷ more) f =
-    All-cons FineCell (bare_cell x) (map bare_cell (scalars more)) (All-head FineDeclared (d.Scalar x) more f) (fine_cells more (All-tail FineDeclared (d.Scalar x) more f))
-fine_cells (d.Several x ∷ more) f = fine_cells more (All-tail FineDeclared (d.Several x) more f)
+fine_cells : (Bounded : Type 0) (all : List Declared) → All (FineDeclared Bounded) all → All (FineCell Bounded) (map bare_cell (scalars all))
+fine_cells Bounded [] f = all_nil (FineCell Bounded)
+fine_cells Bounded (d.Scalar x ∷ more) f =
+    All-cons (FineCell Bounded) (bare_cell x) (map bare_cell (scalars more)) (All-head (FineDeclared Bounded) (d.Scalar x) more f) (fine_cells Bounded more (All-tail (FineDeclared Bounded) (d.Scalar x) more f))
+fine_cells Bounded (d.Several x ∷ more) f = fine_cells Bounded more (All-tail (FineDeclared Bounded) (d.Several x) more f)
 
-fine_arrays : (all : List Declared) → All FineDeclared all → All FineArray (map bare_array (arrays all))
-fine_arrays [] f = all_nil FineArray
-fine_arrays (d.Scalar x ∷ more) f = fine_arrays more (All-tail FineDeclared (d.Scalar x) more f)
-fine_arrays (d.Several x ∷ more) f =
-    All-cons FineArray (bare_array x) (map bare_array (arrays more)) (All-head FineDeclared (d.Several x) more f) (fine_arrays more (All-tail FineDeclared (d.Several x) more f))
+fine_arrays : (Bounded : Type 0) (all : List Declared) → All (FineDeclared Bounded) all → All (FineArray Bounded) (map bare_array (arrays all))
+fine_arrays Bounded [] f = all_nil (FineArray Bounded)
+fine_arrays Bounded (d.Scalar x ∷ more) f = fine_arrays Bounded more (All-tail (FineDeclared Bounded) (d.Scalar x) more f)
+fine_arrays Bounded (d.Several x ∷ more) f =
+    All-cons (FineArray Bounded) (bare_array x) (map bare_array (arrays more)) (All-head (FineDeclared Bounded) (d.Several x) more f) (fine_arrays Bounded more (All-tail (FineDeclared Bounded) (d.Several x) more f))
 
-pub cells_known : {ts rest : List Item} {all : List Declared} → SpellsCells ts rest all → Seen ts → KnownCells all rest
-cells_known (d.cells {all = all} z h) s =
-    let v = commas_known FineDeclared SpellsCell cell_known h (static_seen z s).1 in
-    record { ints = fine_cells all v.0; arrays = fine_arrays all v.0; after = v.1.1 }
+pub cells_known : {Bounded : Type 0} {ts rest : List Item} {all : List Declared} → SpellsCells ts rest all → Seen Bounded ts → KnownCells Bounded all rest
+cells_known {Bounded = Bounded} (d.cells {all = all} z h) s =
+    let v = commas_known (FineDeclared Bounded) SpellsCell (cell_known Bounded) h (static_seen _ z s).1 in
+    record { ints = fine_cells Bounded all v.0; arrays = fine_arrays Bounded all v.0; after = v.1.1 }
 
 -- ---- mutexes and conditions
 
-abbrev pub FineObject : bare.Object → Type 0
-FineObject x = ShapedObject x × IsWritableObject x
+abbrev pub FineObject : Type 0 → bare.Object → Type 0
+FineObject Bounded x = ShapedObject x × (Bounded → IsWritableObject x)
 
-initial_known : (o : Sort) → Knows (Unit {0}) (λ u. Unit {0}) (SpellsInitial o)
-initial_known o _ _ _ d.initial s = (tt, s.1)
+initial_known : (Bounded : Type 0) (o : Sort) → Knows Bounded (Unit {0}) (λ u. Unit {0}) (SpellsInitial o)
+initial_known Bounded o _ _ _ d.initial s = (tt, s.1)
 
-object_known : (o : Sort) → Knows Object (λ x. FineObject (bare_object x)) (SpellsObject o)
-object_known o _ _ _ (d.single {a = a} {n = n} q) s = let m = name_known a n s.0 q in (((m.0, refl), (m.1, tt)), s.1)
-object_known o _ _ _ (d.single_ready {a = a} {n = n} q) s = let m = name_known a n s.0 q in (((m.0, refl), (m.1, tt)), s.1.1.1)
-object_known o _ _ _ (d.several {a = a} {n = n} q) s = let m = name_known a n s.0 q in (((m.0, refl), (m.1, s.1.1.0)), s.1.1.1.1)
-object_known o _ _ _ (d.several_ready {a = a} {n = n} q h) s =
+object_known : (Bounded : Type 0) (o : Sort) → Knows Bounded Object (λ x. FineObject Bounded (bare_object x)) (SpellsObject o)
+object_known Bounded o _ _ _ (d.single {a = a} {n = n} q) s = let m = name_known a n s.0 q in (((m.0, refl), λ u. (m.1 u, tt)), s.1)
+object_known Bounded o _ _ _ (d.single_ready {a = a} {n = n} q) s = let m = name_known a n s.0 q in (((m.0, refl), λ u. (m.1 u, tt)), s.1.1.1)
+object_known Bounded o _ _ _ (d.several {a = a} {n = n} q) s = let m = name_known a n s.0 q in (((m.0, refl), λ u. (m.1 u, s.1.1.0 u)), s.1.1.1.1)
+object_known Bounded o _ _ _ (d.several_ready {a = a} {n = n} q h) s =
     let m = name_known a n s.0 q in
-    let v = commas_known (λ u. Unit {0}) (SpellsInitial o) (initial_known o) h s.1.1.1.1.1.1 in
-    (((m.0, some_parts h), (m.1, s.1.1.0)), v.1.1)
+    let v = commas_known (λ u. Unit {0}) (SpellsInitial o) (initial_known Bounded o) h s.1.1.1.1.1.1 in
+    (((m.0, some_parts h), λ u. (m.1 u, s.1.1.0 u)), v.1.1)
 
 all_mapped : {X Y : Type 0} (P : Y → Type 0) (f : X → Y) (xs : List X) → All (λ x. P (f x)) xs → All P (map f xs)
 all_mapped P f [] h = all_nil P
 all_mapped P f (x ∷ xs) h = All-cons P (f x) (map f xs) (All-head (λ x. P (f x)) x xs h) (all_mapped P f xs (All-tail (λ x. P (f x)) x xs h))
 
-pub objects_known : {o : Sort} {ts rest : List Item} {all : List Object} → SpellsObjects o ts rest all → Seen ts → All FineObject (map bare_object all) × Seen rest
-objects_known (d.objects {o = o} {all = all} z h) s =
-    let v = commas_known (λ x. FineObject (bare_object x)) (SpellsObject o) (object_known o) h (static_seen z s).1 in
-    (all_mapped FineObject bare_object all v.0, v.1.1)
+pub objects_known : (Bounded : Type 0) {o : Sort} {ts rest : List Item} {all : List Object} → SpellsObjects o ts rest all → Seen Bounded ts → All (FineObject Bounded) (map bare_object all) × Seen Bounded rest
+objects_known Bounded (d.objects {o = o} {all = all} z h) s =
+    let v = commas_known (λ x. FineObject Bounded (bare_object x)) (SpellsObject o) (object_known Bounded o) h (static_seen _ z s).1 in
+    (all_mapped (FineObject Bounded) bare_object all v.0, v.1.1)

@@ -19,11 +19,11 @@ pub all_one : {X : Type 0} (P : X → Type 0) (x : X) → P x → All P (x ∷ [
 all_one P x f = All-cons P x [] f (all_nil P)
 
 -- What is known of an item of a list, and of the items of the text after it.
-abbrev pub Knows : (X : Type 0) → (X → Type 0) → (List Item → List Item → X → Type 0) → Type 0
-Knows X P Part = (ts rest : List Item) (x : X) → Part ts rest x → Seen ts → P x × Seen rest
+abbrev pub Knows : Type 0 → (X : Type 0) → (X → Type 0) → (List Item → List Item → X → Type 0) → Type 0
+Knows Bounded X P Part = (ts rest : List Item) (x : X) → Part ts rest x → Seen Bounded ts → P x × Seen Bounded rest
 
-pub commas_known : {X : Type 0} (P : X → Type 0) (Part : List Item → List Item → X → Type 0) → Knows X P Part → {ts rest : List Item} {all : List X}
-    → Commas Part ts rest all → Seen ts → All P all × Seen rest
+pub commas_known : {Bounded : Type 0} {X : Type 0} (P : X → Type 0) (Part : List Item → List Item → X → Type 0) → Knows Bounded X P Part → {ts rest : List Item} {all : List X}
+    → Commas Part ts rest all → Seen Bounded ts → All P all × Seen Bounded rest
 commas_known P Part each (c.one {a = a} h) s = let x = each _ _ a h s in (all_one P a x.0, x.1)
 commas_known P Part each (c.more {all = all} {a = a} hs h) s =
     let xs = commas_known P Part each hs s in
@@ -36,5 +36,9 @@ some_parts (c.more {all = all} {a = a} hs h) = let n = length-append all (a ∷ 
 
 -- ---- numbers
 
-pub number_known : Knows ℕ (λ n. n ≤ largest) SpellsNumber
-number_known _ _ _ x.number s = s
+-- Of a number.
+abbrev pub IsSmallWhere : Type 0 → ℕ → Type 0
+IsSmallWhere Bounded n = Bounded → n ≤ largest
+
+pub number_known : (Bounded : Type 0) → Knows Bounded ℕ (IsSmallWhere Bounded) SpellsNumber
+number_known Bounded _ _ _ x.number s = s

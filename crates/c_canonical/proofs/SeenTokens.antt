@@ -1,4 +1,4 @@
--- The items of a text's tokens are genuine.
+-- The items of tokens are genuine: within the bounds where the tokens are those of a text.
 use Rattle.std.proofs.Common.{◌≡◌, ℕ, ◌≤◌, Bool, true, false, cond, List, [], ◌∷◌, bytes_eq, Option, Some, None, refl, sym, subst}
 use Rattle.std.specs.List.{list_any}
 use Rattle.c_lexer.specs.declared.token.LexError.{LexError}
@@ -40,11 +40,11 @@ name_likes name =
     by true g = tt
     by false g = g
 
-name_genuine : (name : List ℕ) → IsName name → Genuine (undefined_name name)
-name_genuine name n = by (undefined_name name) refl (name_likes name)
+name_genuine : (Bounded : Type 0) (name : List ℕ) → (Bounded → IsName name) → Genuine Bounded (undefined_name name)
+name_genuine Bounded name n = by (undefined_name name) refl (name_likes name)
   where
-    by : (a : What) → undefined_name name ≡ a → Likes name a → Genuine a
-    by (What.Name other) e same = (subst (λ (m : List ℕ). undefined_name m ≡ What.Name other) (sym same) e, subst IsName (sym same) n)
+    by : (a : What) → undefined_name name ≡ a → Likes name a → Genuine Bounded a
+    by (What.Name other) e same = (subst (λ (m : List ℕ). undefined_name m ≡ What.Name other) (sym same) e, λ u. subst IsName (sym same) (n u))
     by (What.Fixed word) e h = tt
     by What.Keyword e h = tt
     by _ e h = absurd h
@@ -70,18 +70,18 @@ found_small (d ∷ ds) name s = by (defines name d) s.0 (found_small ds name s.1
 
 -- ---- tokens
 
-what_genuine : (ds : List Defined) (kind : Kind) (bytes : List ℕ) → Small ds → Proper kind bytes → Genuine (what_is ds kind bytes)
-what_genuine ds Kind.name bytes s p = by (definition_of ds bytes) (found_small ds bytes s)
+what_genuine : (Bounded : Type 0) (ds : List Defined) (kind : Kind) (bytes : List ℕ) → (Bounded → Small ds) → (Bounded → Proper kind bytes) → Genuine Bounded (what_is ds kind bytes)
+what_genuine Bounded ds Kind.name bytes s p = by (definition_of ds bytes) (λ u. found_small ds bytes (s u))
   where
-    by : (o : Option Defined) → SmallIf o → Genuine (named bytes o)
-    by None h = name_genuine bytes p
+    by : (o : Option Defined) → (Bounded → SmallIf o) → Genuine Bounded (named bytes o)
+    by None h = name_genuine Bounded bytes p
     by (Some d) h = h
-what_genuine ds (Kind.number value) bytes s p = p
-what_genuine ds Kind.text bytes s p = p
-what_genuine ds (Kind.sign sign) bytes s p = tt
-what_genuine ds (Kind.define name value) bytes s p = by (definition_of ds name)
+what_genuine Bounded ds (Kind.number value) bytes s p = p
+what_genuine Bounded ds Kind.text bytes s p = p
+what_genuine Bounded ds (Kind.sign sign) bytes s p = tt
+what_genuine Bounded ds (Kind.define name value) bytes s p = by (definition_of ds name)
   where
-    by : (o : Option Defined) → Genuine (first_or_repeated o)
+    by : (o : Option Defined) → Genuine Bounded (first_or_repeated o)
     by None = tt
     by (Some d) = tt
 
@@ -92,12 +92,20 @@ still_small ds _ bytes s p = s
 proper_token : (first : Bool) (w rest : List ℕ) (kind : Kind) → Longest first w rest (Piece.token kind) → Proper kind w
 proper_token first w rest kind h = subst (ProperIf w) h.is (lexeme_proper first w rest)
 
-scan_seen : {before all : List ℕ} {words : List Word} {end : Option LexError} → Scan before all words end → (ds : List Defined) → Small ds → Seen (items ds words)
+scan_seen : {before all : List ℕ} {words : List Word} {end : Option LexError} → Scan before all words end → (ds : List Defined) → Small ds → Seen (Unit {0}) (items ds words)
 scan_seen tokens.ended ds s = tt
 scan_seen (tokens.refused e h) ds s = tt
 scan_seen (tokens.skip e h more) ds s = scan_seen more ds s
 scan_seen (tokens.word {w = w} {rest = rest} {kind = kind} e h more) ds s =
-    let p = proper_token _ w rest kind h in (what_genuine ds kind w s p, scan_seen more (defined_by ds kind) (still_small ds kind w s p))
+    let p = proper_token _ w rest kind h in (what_genuine (Unit {0}) ds kind w (λ u. s) (λ u. p), scan_seen more (defined_by ds kind) (still_small ds kind w s p))
 
-pub seen : (text : List ℕ) (words : List Word) → Tokens text words → Seen (items [] words)
+pub seen : (text : List ℕ) (words : List Word) → Tokens text words → Seen (Unit {0}) (items [] words)
 seen text words h = scan_seen h [] tt
+
+any_items : (ds : List Defined) (words : List Word) → Seen ⊥ (items ds words)
+any_items ds [] = tt
+any_items ds (word ∷ words) = (what_genuine ⊥ ds word.kind word.bytes (λ u. absurd u) (λ u. absurd u), any_items (defined_by ds word.kind) words)
+
+-- Any tokens are known apart from the bounds.
+pub any_seen : (words : List Word) → Seen ⊥ (items [] words)
+any_seen words = any_items [] words

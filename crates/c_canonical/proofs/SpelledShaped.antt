@@ -25,10 +25,10 @@ WritableSlots [] = Unit {0}
 WritableSlots (t ∷ ts) = IsWritableSlot t × WritableSlots ts
 
 -- What is known of declared threads, and of the items after them.
-pub record KnownSlots (all : List Slot) (rest : List Item) : Type 0 where
+pub record KnownSlots (Bounded : Type 0) (all : List Slot) (rest : List Item) : Type 0 where
   pub shaped : ShapedSlots (map bare_slot all)
-  pub writable : WritableSlots (map bare_slot all)
-  pub after : Seen rest
+  pub writable : Bounded → WritableSlots (map bare_slot all)
+  pub after : Seen Bounded rest
 
 pub shaped_slots : (xs ys : List Slot) → ShapedSlots (map bare_slot xs) → ShapedSlots (map bare_slot ys) → ShapedSlots (map bare_slot (xs ++ ys))
 shaped_slots [] ys f g = g
@@ -38,48 +38,48 @@ pub writable_slots : (xs ys : List Slot) → WritableSlots (map bare_slot xs) �
 writable_slots [] ys f g = g
 writable_slots (x ∷ xs) ys f g = (f.0, writable_slots xs ys f.1 g)
 
-pub static_seen : {ts rest : List Item} → SpellsStatic ts rest → Seen ts → Seen rest
-static_seen st.absent s = s
-static_seen st.present s = s.1
+pub static_seen : (Bounded : Type 0) {ts rest : List Item} → SpellsStatic ts rest → Seen Bounded ts → Seen Bounded rest
+static_seen Bounded st.absent s = s
+static_seen Bounded st.present s = s.1
 
-slot_known : {ts rest : List Item} {t : Slot} → SpellsSlot ts rest t → Seen ts → KnownSlots (t ∷ []) rest
-slot_known (st.one {a = a} {n = n} q) s = let m = name_known a n s.0 q in record { shaped = (m.0, tt); writable = ((m.1, tt), tt); after = s.1 }
+slot_known : {Bounded : Type 0} {ts rest : List Item} {t : Slot} → SpellsSlot ts rest t → Seen Bounded ts → KnownSlots Bounded (t ∷ []) rest
+slot_known (st.one {a = a} {n = n} q) s = let m = name_known a n s.0 q in record { shaped = (m.0, tt); writable = λ u. ((m.1 u, tt), tt); after = s.1 }
 slot_known (st.several {a = a} {n = n} q) s =
-    let m = name_known a n s.0 q in record { shaped = (m.0, tt); writable = ((m.1, s.1.1.0), tt); after = s.1.1.1.1 }
+    let m = name_known a n s.0 q in record { shaped = (m.0, tt); writable = λ u. ((m.1 u, s.1.1.0 u), tt); after = s.1.1.1.1 }
 
-commas_known : {ts rest : List Item} {all : List Slot} → Commas SpellsSlot ts rest all → Seen ts → KnownSlots all rest
+commas_known : {Bounded : Type 0} {ts rest : List Item} {all : List Slot} → Commas SpellsSlot ts rest all → Seen Bounded ts → KnownSlots Bounded all rest
 commas_known (c.one h) s = slot_known h s
 commas_known (c.more {all = all} {a = a} h i) s =
     let xs = commas_known h s in
     let y = slot_known i xs.after.1 in
     record {
       shaped = shaped_slots all (a ∷ []) xs.shaped y.shaped;
-      writable = writable_slots all (a ∷ []) xs.writable y.writable;
+      writable = λ u. writable_slots all (a ∷ []) (xs.writable u) (y.writable u);
       after = y.after;
     }
 
-pub slots_shaped : {ts rest : List Item} {all : List Slot} → SpellsSlots ts rest all → Seen ts → KnownSlots all rest
+pub slots_shaped : {Bounded : Type 0} {ts rest : List Item} {all : List Slot} → SpellsSlots ts rest all → Seen Bounded ts → KnownSlots Bounded all rest
 slots_shaped (st.slots f h) s =
-    let b = static_seen f s in
+    let b = static_seen _ f s in
     let v = commas_known h b.1 in
     record { shaped = v.shaped; writable = v.writable; after = v.after.1 }
 
 -- ---- bodies
 
 -- What is known of the body of a function of this kind, and of the items after it.
-pub record KnownBody (k : Kind) (b : Body) (rest : List Item) : Type 0 where
+pub record KnownBody (Bounded : Type 0) (k : Kind) (b : Body) (rest : List Item) : Type 0 where
   pub shaped : ShapedStmts k (bare_stmts (listed b.stmts))
-  pub writable : AreWritableStmts (bare_stmts (listed b.stmts))
-  pub slots : KnownSlots b.slots rest
+  pub writable : Bounded → AreWritableStmts (bare_stmts (listed b.stmts))
+  pub slots : KnownSlots Bounded b.slots rest
 
-pub body_shaped : {k : Kind} {ts rest : List Item} {b : Tall Body} → SpellsBody k ts rest b → Seen ts → KnownBody k b.tree rest
-body_shaped st.none s = record { shaped = tt; writable = tt; slots = record { shaped = tt; writable = tt; after = s } }
+pub body_shaped : {Bounded : Type 0} {k : Kind} {ts rest : List Item} {b : Tall Body} → SpellsBody k ts rest b → Seen Bounded ts → KnownBody Bounded k b.tree rest
+body_shaped st.none s = record { shaped = tt; writable = λ u. tt; slots = record { shaped = tt; writable = λ u. tt; after = s } }
 body_shaped {k = k} (st.then {all = all} {x = x} h i) s =
     let xs = body_shaped h s in
     let y = statement_known i xs.slots.after in
     record {
       shaped = shaped_append k all.tree.stmts x.tree xs.shaped y.shaped;
-      writable = writable_append all.tree.stmts x.tree xs.writable y.writable;
+      writable = λ u. writable_append all.tree.stmts x.tree (xs.writable u) (y.writable u);
       slots = record { shaped = xs.slots.shaped; writable = xs.slots.writable; after = y.after };
     }
 body_shaped (st.then_slots {all = all} {threads = threads} h i) s =
@@ -90,7 +90,7 @@ body_shaped (st.then_slots {all = all} {threads = threads} h i) s =
       writable = xs.writable;
       slots = record {
         shaped = shaped_slots all.tree.slots threads xs.slots.shaped y.shaped;
-        writable = writable_slots all.tree.slots threads xs.slots.writable y.writable;
+        writable = λ u. writable_slots all.tree.slots threads (xs.slots.writable u) (y.writable u);
         after = y.after;
       };
     }

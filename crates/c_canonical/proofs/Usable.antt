@@ -90,21 +90,21 @@ fixed_named w.ControlledWait = refl
 same_name : (m n : List ℕ) → Some m ≡ Some n → m ≡ n
 same_name m n e = cc
 
-pub name_known : (a : What) (n : List ℕ) → Genuine a → name_of a ≡ Some n → Usable n × IsName n
-name_known (What.Name m) n g e = let same = same_name m n e in (subst Usable same (ap name_of g.0), subst IsName same g.1)
-name_known (What.Fixed x) n g e = go (is_keyword x) e
+pub name_known : {Bounded : Type 0} (a : What) (n : List ℕ) → Genuine Bounded a → name_of a ≡ Some n → Usable n × (Bounded → IsName n)
+name_known (What.Name m) n g e = let same = same_name m n e in (subst Usable same (ap name_of g.0), λ u. subst IsName same (g.1 u))
+name_known {Bounded = Bounded} (What.Fixed x) n g e = go (is_keyword x) e
   where
-    go : (b : Bool) → (if b then None else Some (spelling x)) ≡ Some n → Usable n × IsName n
+    go : (b : Bool) → (if b then None else Some (spelling x)) ≡ Some n → Usable n × (Bounded → IsName n)
     go true d = absurd cc
     go false d =
         let same = same_name (spelling x) n d in
-        (ap (λ (m : List ℕ). name_of (undefined_name m)) (sym same) ∙ ap name_of (fixed_is x) ∙ e, subst IsName same (fixed_named x))
+        (ap (λ (m : List ℕ). name_of (undefined_name m)) (sym same) ∙ ap name_of (fixed_is x) ∙ e, λ u. subst IsName same (fixed_named x))
 name_known _ n g e = absurd cc
 
-pub callee_known : (a : What) (n : List ℕ) → Genuine a → callee a ≡ Some n → Callable n × IsName n
-callee_known (What.Name m) n g e = let same = same_name m n e in (subst Callable same (ap callee g.0), subst IsName same g.1)
-callee_known (What.Fixed w.Main) n g e = let same = same_name (spelling w.Main) n e in (subst Callable same refl, subst IsName same (fixed_named w.Main))
-callee_known (What.Fixed w.Parameter) n g e = let same = same_name (spelling w.Parameter) n e in (subst Callable same refl, subst IsName same (fixed_named w.Parameter))
-callee_known (What.Fixed w.ConditionParameter) n g e = let same = same_name (spelling w.ConditionParameter) n e in (subst Callable same refl, subst IsName same (fixed_named w.ConditionParameter))
-callee_known (What.Fixed w.MutexParameter) n g e = let same = same_name (spelling w.MutexParameter) n e in (subst Callable same refl, subst IsName same (fixed_named w.MutexParameter))
+pub callee_known : {Bounded : Type 0} (a : What) (n : List ℕ) → Genuine Bounded a → callee a ≡ Some n → Callable n × (Bounded → IsName n)
+callee_known (What.Name m) n g e = let same = same_name m n e in (subst Callable same (ap callee g.0), λ u. subst IsName same (g.1 u))
+callee_known (What.Fixed w.Main) n g e = let same = same_name (spelling w.Main) n e in (subst Callable same refl, λ u. subst IsName same (fixed_named w.Main))
+callee_known (What.Fixed w.Parameter) n g e = let same = same_name (spelling w.Parameter) n e in (subst Callable same refl, λ u. subst IsName same (fixed_named w.Parameter))
+callee_known (What.Fixed w.ConditionParameter) n g e = let same = same_name (spelling w.ConditionParameter) n e in (subst Callable same refl, λ u. subst IsName same (fixed_named w.ConditionParameter))
+callee_known (What.Fixed w.MutexParameter) n g e = let same = same_name (spelling w.MutexParameter) n e in (subst Callable same refl, λ u. subst IsName same (fixed_named w.MutexParameter))
 callee_known _ n g e = absurd cc

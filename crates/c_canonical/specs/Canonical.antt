@@ -1,5 +1,5 @@
 -- What the canonical text of a program is to the grammar.
-use Rattle.std.specs.Prelude.{◌≡◌, ℕ, List}
+use Rattle.std.specs.Prelude.{◌≡◌, ◌↔◌, ℕ, List}
 use Rattle.c_lexer.specs.Tokens.{Word, Tokens}
 use Rattle.c_layout.specs.Layout.{text}
 use Rattle.c_tree.specs.Bare as bare
@@ -32,3 +32,19 @@ ShapedIsSpelled = (p : bare.Program) → ShapedProgram p → IsWritableProgram p
 -- So the canonical text of a program that has a text spells it.
 abbrev pub CanonicalSpells : Type 0
 CanonicalSpells = (p : bare.Program) → HasText p → SpellsBare (text (layout_of p)) p
+
+-- Some tokens spell this program, lines apart, in a file that ends on some line. Their names, numbers and texts may be of any length.
+pub record HasWords (p : bare.Program) : Type 0 where
+  pub end : ℕ
+  pub words : List Word
+  pub program : Tall Program
+  pub spells : Spells end words program
+  pub same : bare_program program.tree ≡ p
+
+-- A program is shaped exactly where some tokens do.
+abbrev pub ShapeIsWhatWordsSpell : Type 0
+ShapeIsWhatWordsSpell = (p : bare.Program) → ShapedProgram p ↔ HasWords p
+
+-- A program is shaped and writable exactly where some text spells it.
+abbrev pub TextsAreWritable : Type 0
+TextsAreWritable = (p : bare.Program) → HasText p ↔ (ShapedProgram p × IsWritableProgram p)

@@ -1,7 +1,7 @@
 // The laws of the canonical text.
 
 ghost use Rattle.c_canonical.specs.Writable.{ReadsBack};
-ghost use Rattle.c_canonical.specs.Canonical.{SpelledIsShaped, ShapedIsSpelled, CanonicalSpells};
+ghost use Rattle.c_canonical.specs.Canonical.{SpelledIsShaped, ShapedIsSpelled, CanonicalSpells, ShapeIsWhatWordsSpell, TextsAreWritable};
 
 /// A law of programs whose names, numbers and formats are tokens: the canonical text of one is read
 /// as exactly the tokens of its layout.
@@ -23,4 +23,16 @@ pub fn shaped_is_spelled()
 /// A law of programs that some text spells: the canonical text of one spells it too, lines apart.
 pub fn canonical_spells()
     ensures { CanonicalSpells }
+{}
+
+/// A law of the shape: a program is shaped exactly where some tokens spell it, lines apart. No bound
+/// on names, numbers or texts has a part in it.
+pub fn shape_is_what_words_spell()
+    ensures { ShapeIsWhatWordsSpell }
+{}
+
+/// A law of the programs that have texts: they are those that are shaped and whose names, numbers and
+/// formats are tokens.
+pub fn texts_are_writable()
+    ensures { TextsAreWritable }
 {}

@@ -1,37 +1,10 @@
--- What an outcome is, and the union of stuck sets.
-use Rattle.std.proofs.Common.{◌≡◌, Bool, true, false, refl, sym, ap, ◌∙◌, ◌⊎◌, inl, inr, ⊎_elim}
+-- The end of main, and the union of stuck sets.
+use Rattle.std.proofs.Common.{◌≡◌, Bool, true, false, refl, sym, ◌∙◌, ◌⊎◌, inl, inr, ⊎_elim}
 use Rattle.std.specs.Prelude.{◌||◌, if◌then◌else◌, IsTrue, slice_get}
-use Rattle.c_meaning.specs.declared.Did.{Did}
-use Rattle.c_meaning.specs.State.{State}
-use Rattle.c_meaning.specs.Outcome.{Outcome, NotEnabled, Undefined, Done}
+use Rattle.c_meaning.specs.Outcome.{Outcome, NotEnabled}
 use Rattle.c_meaning.specs.Step.{happened}
-use Rattle.c_meaning.specs.Laws.{EachEventIsDecided, EachEventLeadsToOne, EndsWithMain, BlockedForOne, StuckSetsUnite}
+use Rattle.c_meaning.specs.Laws.{EndsWithMain, BlockedForOne, StuckSetsUnite}
 use Rattle.c_meaning.proofs.Reading.{some_is}
-
-one_of_three : (o : Outcome) → (o ≡ NotEnabled) ⊎ ((o ≡ Undefined) ⊎ ((done : Did) × (next : State) × (o ≡ Done done next)))
-one_of_three NotEnabled = inl refl
-one_of_three Undefined = inr (inl refl)
-one_of_three (Done done next) = inr (inr (done, next, refl))
-
-pub each_event_is_decided : EachEventIsDecided
-each_event_is_decided p s e = one_of_three _
-
--- what an outcome did, and where it leads; or else what is given
-abbrev done_of : Did → Outcome → Did
-done_of otherwise NotEnabled = otherwise
-done_of otherwise Undefined = otherwise
-done_of otherwise (Done done next) = done
-
-abbrev next_of : State → Outcome → State
-next_of otherwise NotEnabled = otherwise
-next_of otherwise Undefined = otherwise
-next_of otherwise (Done done next) = next
-
-same_done : (done other : Did) (next after : State) → Done done next ≡ Done other after → (done ≡ other) × (next ≡ after)
-same_done done other next after e = (ap (done_of done) e, ap (next_of next) e)
-
-pub each_event_leads_to_one : EachEventLeadsToOne
-each_event_leads_to_one p s e done other next after leads leads_too = same_done done other next after (sym leads ∙ leads_too)
 
 ended_if : (b : Bool) (o : Outcome) → b ≡ true → (if b then NotEnabled else o) ≡ NotEnabled
 ended_if true o e = refl

@@ -1,30 +1,13 @@
 -- What holds of all states and events.
-use Rattle.std.specs.Prelude.{◌≡◌, ◌↔◌, ℕ, Bool, true, ◌||◌, if◌then◌else◌, IsTrue, ◌⊎◌, Some, None, slice_get}
+use Rattle.std.specs.Prelude.{◌≡◌, ◌↔◌, ℕ, Bool, true, ◌||◌, if◌then◌else◌, IsTrue, Some, None, slice_get}
 use Rattle.std.specs.declared.option.Option.{Option}
 use Rattle.c_tree.specs.Bare.{Program}
-use Rattle.c_meaning.specs.declared.Did.{Did}
 use Rattle.c_meaning.specs.declared.Event.{Event}
 use Rattle.c_meaning.specs.State.{State}
-use Rattle.c_meaning.specs.Outcome.{NotEnabled, Undefined, Done}
+use Rattle.c_meaning.specs.Outcome.{NotEnabled}
 use Rattle.c_meaning.specs.Step.{step}
 use Rattle.c_meaning.specs.Stuck.{wanted, is_taken, is_holder, Blocked, IsStuck}
 use Rattle.c_meaning.specs.Closed.{IsClosed}
-
--- an event does this, and leads to this state
-abbrev pub LeadsTo : Program → State → Event → Did → State → Type 0
-LeadsTo p s e done next = step p s e ≡ Done done next
-
--- an event isn't enabled, or is undefined, or leads to a state
-abbrev pub IsDecided : Program → State → Event → Type 0
-IsDecided p s e = (step p s e ≡ NotEnabled) ⊎ ((step p s e ≡ Undefined) ⊎ ((done : Did) × (next : State) × LeadsTo p s e done next))
-
-abbrev pub EachEventIsDecided : Type 0
-EachEventIsDecided = (p : Program) (s : State) (e : Event) → IsDecided p s e
-
--- an event leads to one state, and does one thing
-abbrev pub EachEventLeadsToOne : Type 0
-EachEventLeadsToOne =
-    (p : Program) (s : State) (e : Event) (done other : Did) (next after : State) → LeadsTo p s e done next → LeadsTo p s e other after → (done ≡ other) × (next ≡ after)
 
 -- nothing is enabled after main has ended
 abbrev pub EndsWithMain : Type 0

@@ -1,12 +1,9 @@
 // What holds of all states and events.
-ghost use Rattle.c_meaning.specs.Laws.{EachEventIsDecided, EachEventLeadsToOne, EndsWithMain, BlockedForOne, BlockedIsComputed, StuckIsClosed, StuckSetsUnite};
+ghost use Rattle.c_meaning.specs.Laws.{EndsWithMain, BlockedForOne, BlockedIsComputed, StuckIsClosed, StuckSetsUnite};
 
-/// An event isn't enabled, or is undefined, or leads to a state, which is the only one and does
-/// one thing; and nothing is enabled after main has ended.
-pub fn a_step_is_one_of_three()
-    ensures decided { EachEventIsDecided }
-    ensures one { EachEventLeadsToOne }
-    ensures ended { EndsWithMain }
+/// Nothing is enabled after main has ended.
+pub fn programs_end_with_main()
+    ensures { EndsWithMain }
 {}
 
 /// A thread is blocked for one resource at most, and the union of two stuck sets is stuck.

@@ -8,7 +8,7 @@ mod samples;
 mod values;
 
 pub use closed::{Blocking, largest};
-pub use laws::{a_step_is_one_of_three, stuck_sets_are_closed, stuck_sets_unite};
+pub use laws::{programs_end_with_main, stuck_sets_are_closed, stuck_sets_unite};
 pub use printing::put_format;
 pub use samples::{
     crossing_locks_get_stuck, threads_take_turns, unlocking_for_another_is_undefined,

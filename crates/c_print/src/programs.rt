@@ -5,11 +5,13 @@ ghost use Rattle.std.specs.List.{flat_map};
 ghost use Rattle.c_layout.specs.Layout as tokens;
 ghost use Rattle.c_layout.specs.Layout.{text};
 ghost use Rattle.c_tree.specs.Lined.{bare_cell, bare_array, bare_object, bare_slot, bare_function, bare_program, function_of, program_of};
-ghost use Rattle.c_canonical.specs.Canonical.{HasText, SpellsBare};
+ghost use Rattle.c_canonical.specs.Canonical.{SpellsBare};
 ghost use Rattle.c_canonical.specs.Expressions.{followed, separated};
 ghost use Rattle.c_canonical.specs.Programs as spec;
+ghost use Rattle.c_canonical.specs.ShapedPrograms.{ShapedProgram};
 ghost use Rattle.c_canonical.specs.Statements.{statements};
 ghost use Rattle.c_canonical.specs.Waits.{some_waits};
+ghost use Rattle.c_canonical.specs.Writable.{IsWritableProgram};
 
 use crate::acts::following_numbers;
 use crate::statements::lines;
@@ -459,11 +461,13 @@ fn declarations(out: &mut Vec<u8>, alloc: Global, p: &Program) -> Result<(), All
 /// The canonical text of a program: two includes, the declarations one on each line, and the
 /// functions, each behind an empty line. Statements are indented by four spaces a level, arms and
 /// bodies stand in braces, and parentheses stand only where an expression needs them. Lines have no
-/// part in it. If any text spells the program, this one spells it, lines apart. The one error is want
-/// of memory.
+/// part in it. The tokens of this text spell the program, lines apart, where it has the shape of what
+/// tokens spell and its names, numbers and formats can be written: so they do wherever any text's do. The
+/// one error is want of memory.
 pub fn print(alloc: Global, p: &Program) -> Result<Vec<u8>, AllocError>
     ensures text { IfOk result (λ bytes. bytes.items ≡ text (spec.layout_of (bare_program (program_of p.now)))) }
-    ensures spelled { HasText (bare_program (program_of p.now)) → IfOk result (λ bytes. SpellsBare bytes.items (bare_program (program_of p.now))) }
+    ensures spelled { ShapedProgram (bare_program (program_of p.now)) → IsWritableProgram (bare_program (program_of p.now))
+        → IfOk result (λ bytes. SpellsBare bytes.items (bare_program (program_of p.now))) }
 {
     let mut out = Vec::new(alloc);
     put(&mut out, b"#include <pthread.h>\n#include <stdio.h>\n")?;

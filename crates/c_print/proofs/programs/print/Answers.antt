@@ -6,7 +6,7 @@ use Rattle.c_layout.proofs.Readings.{text_append}
 use Rattle.c_tree.specs.Lined.{bare_program, program_of}
 use Rattle.c_canonical.specs.Programs.{declarations, function, layout_of}
 use Rattle.c_canonical.specs.Canonical.{SpellsBare}
-use Rattle.c_canonical.proofs.Canonical.{canonical_spells}
+use Rattle.c_canonical.proofs.Canonical.{shaped_is_spelled}
 use Rattle.c_print.proofs.Chains.{chain3}
 use Rattle.c_print.proofs.programs.print.Goals as goal
 
@@ -21,4 +21,4 @@ returns-clause-text c =
 pub returns-clause-spelled : goal.returns-clause-spelled
 returns-clause-spelled c =
     let p = bare_program (program_of c.args.p.now) in
-    λ h. subst (λ (source : List ℕ). SpellsBare source p) (sym (returns-clause-text c)) (canonical_spells p h)
+    λ s w. subst (λ (source : List ℕ). SpellsBare source p) (sym (returns-clause-text c)) (shaped_is_spelled p s w)

@@ -1,0 +1,4 @@
+pub mod Edit
+pub mod Programs
+pub mod Uses
+pub mod Samples

@@ -1,0 +1,9 @@
+pub mod Rows
+pub mod Lengths
+pub mod Standing
+pub mod Owners
+pub mod Ending
+pub mod Sums
+pub mod Counts
+pub mod Holdings
+pub mod Creating

@@ -1,0 +1,3 @@
+pub mod Mutexes
+pub mod Names
+pub mod Starts

@@ -1,0 +1,11 @@
+pub mod Lookups
+pub mod Values
+pub mod Outcomes
+pub mod Acts
+pub mod Steps
+pub mod Naming
+pub mod Threading
+pub mod Whole
+pub mod Laws
+pub mod Faulty
+pub mod Exact

@@ -1,0 +1,4 @@
+pub mod Faults
+pub mod Causes
+pub mod Proper
+pub mod Laws
