@@ -1,0 +1,4 @@
+pub mod Marks
+pub mod Items
+pub mod Flat
+pub mod Unshadowed

@@ -1,0 +1,11 @@
+pub mod Found
+pub mod Numbers
+pub mod Steady
+pub mod Stands
+pub mod WalkOutlined
+pub mod Sound
+pub mod WalkBefore
+pub mod OutlinedWalk
+pub mod ProgramWalk
+pub mod ForRuns
+pub mod WholeOutlines

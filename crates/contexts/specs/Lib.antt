@@ -1,0 +1,13 @@
+pub mod Constants
+pub mod Resolved
+pub mod Walk
+pub mod Bears
+pub mod Outlines
+pub mod Outlined
+pub mod Numbered
+pub mod Threads
+pub mod Shape
+pub mod Agreeing
+pub mod Firsts
+pub mod Samples
+pub mod Quiet

@@ -1,0 +1,10 @@
+pub mod Lead
+pub mod Move
+pub mod Live
+pub mod Out
+pub mod Reach
+pub mod Shape
+pub mod Numbers
+pub mod Named
+pub mod Counted
+pub mod Placed

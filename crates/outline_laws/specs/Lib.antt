@@ -1,0 +1,4 @@
+pub mod Leading
+pub mod Reaching
+pub mod Shapes
+pub mod Nets
