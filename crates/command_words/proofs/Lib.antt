@@ -1,1 +1,10 @@
 mod Numbers
+mod ClapRows
+mod ClapNames
+mod ClapApp
+mod ClapLooks
+mod ClapStates
+mod ClapTurns
+mod ClapSteps
+mod ClapWalks
+mod ClapEnd

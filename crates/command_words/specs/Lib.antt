@@ -1,3 +1,4 @@
 pub mod Tasks
 pub mod Words
 pub mod Shown
+pub mod Behind

@@ -1,154 +1,41 @@
-// What the words behind a command give.
-ghost use Rattle.std.specs.Prelude.{◌≡◌, ◌++◌, ◌∷◌, [], true, Some, None, if◌then◌else◌, IfOk, option_map, map, string_bytes};
+// What the words behind a command give, as clap reads them.
+ghost use Rattle.std.specs.Prelude.{◌≡◌, ◌↔◌, [], IfOk, IsTrue, option_map, unwrap_or, map, codes, string_bytes};
+ghost use Rattle.clap.specs.Words.{all_of, app_of, fault_of, first_of, found_of, kind_of, rows_of};
+ghost use Rattle.clap.specs.declared.error.kind.ErrorKind.TheVariants.{OutOfMemory};
+ghost use Rattle.command_words.specs.Behind.{app, AreAsGiven};
 ghost use Rattle.command_words.specs.Tasks.{texts};
 ghost use Rattle.command_words.specs.Words as spec;
-ghost use Rattle.command_words.specs.Shown.{next_of, text_of, Adds};
+ghost use Rattle.command_words.specs.Shown.{text_of};
 
+use clap::error::ErrorKind;
+use clap::{Arg, ArgAction, ArgMatches, Command, Error};
 use std::alloc::{AllocError, Global};
 use std::marker::Model;
 
-/// What the next word is.
-#[derive(Clone, Copy)]
-pub enum Next {
-    /// Another word, or an option.
-    Any,
-    /// The number of siphons.
-    Siphons,
-    /// The number of monitors.
-    Monitors,
-    /// Another word, whatever it looks like.
-    Other,
-}
-
-/// What the words so far give.
+/// What the words behind a command give: the names of files, and the values of the options.
 #[derive(Drop)]
 pub struct Given {
-    alloc: Global,
     files: Vec<String>,
     siphons: Option<String>,
     monitors: Option<String>,
-    next: Next,
 }
 
 impl Model for Given {
+    ghost use Rattle.command_words.specs.Tasks.{texts};
+    ghost use Rattle.command_words.specs.Words as spec;
+    ghost use Rattle.command_words.specs.Shown.{text_of};
+
     ghost Value = { spec.Given };
 
     ghost view = { λ g. record {
       files = texts g.files.items;
       siphons = text_of g.siphons;
       monitors = text_of g.monitors;
-      next = next_of g.next;
+      next = spec.Next.any;
     } };
 }
 
-fn is_other(word: &str) -> bool
-    ensures { result ≡ spec.is_other word.now }
-{
-    let bytes = word.as_bytes();
-    bytes.is_empty() || bytes[0] != b'-' || bytes.len() == 1
-}
-
 impl Given {
-    fn new(alloc: Global) -> Given
-        ensures { result ≡ spec.nothing }
-    {
-        Given {
-            alloc,
-            files: Vec::new(alloc),
-            siphons: None,
-            monitors: None,
-            next: Next::Any,
-        }
-    }
-
-    fn add_file(&mut self, word: &str) -> Result<bool, AllocError>
-        ensures { IfOk result (Adds (Some (spec.with_file self.old word.now)) self.new) }
-    {
-        let file = String::from_str(self.alloc, word)?;
-        self.files.push(file)?;
-        Ok(true)
-    }
-
-    fn set_siphons(&mut self, word: &str) -> Result<bool, AllocError>
-        ensures { IfOk result (Adds (spec.with_siphons self.old.siphons self.old word.now) self.new) }
-    {
-        if self.siphons.is_some() {
-            return Ok(false);
-        }
-        self.siphons = Some(String::from_str(self.alloc, word)?);
-        self.next = Next::Any;
-        Ok(true)
-    }
-
-    fn set_monitors(&mut self, word: &str) -> Result<bool, AllocError>
-        ensures { IfOk result (Adds (spec.with_monitors self.old.monitors self.old word.now) self.new) }
-    {
-        if self.monitors.is_some() {
-            return Ok(false);
-        }
-        self.monitors = Some(String::from_str(self.alloc, word)?);
-        self.next = Next::Any;
-        Ok(true)
-    }
-}
-
-impl Given {
-    /// Adds an option.
-    fn add_option(&mut self, word: &str) -> Result<bool, AllocError>
-        ensures { IfOk result (Adds (spec.option_given self.old word.now) self.new) }
-    {
-        if word == "--siphons" {
-            self.next = Next::Siphons;
-            return Ok(true);
-        }
-        if word == "--monitors" {
-            self.next = Next::Monitors;
-            return Ok(true);
-        }
-        match word.strip_prefix("--siphons=") {
-            Some(value) => self.set_siphons(value),
-            None => match word.strip_prefix("--monitors=") {
-                Some(value) => self.set_monitors(value),
-                None => Ok(false),
-            },
-        }
-    }
-
-    /// Adds a word that may be an option.
-    fn add_any(&mut self, word: &str) -> Result<bool, AllocError>
-        ensures { IfOk result (Adds (spec.given_as spec.Next.any self.old word.now) self.new) }
-    {
-        if word == "--" {
-            self.next = Next::Other;
-            return Ok(true);
-        }
-        if is_other(word) {
-            return self.add_file(word);
-        }
-        self.add_option(word)
-    }
-
-    /// Adds a word. Whether it is of a known shape here.
-    fn add(&mut self, word: &str) -> Result<bool, AllocError>
-        ensures { IfOk result (Adds (spec.given_as self.old.next self.old word.now) self.new) }
-    {
-        match self.next {
-            Next::Any => self.add_any(word),
-            Next::Siphons => self.set_siphons(word),
-            Next::Monitors => self.set_monitors(word),
-            Next::Other => self.add_file(word),
-        }
-    }
-
-    fn is_complete(&self) -> bool
-        ensures { result ≡ spec.complete self.now.next }
-    {
-        match self.next {
-            Next::Any | Next::Other => true,
-            Next::Siphons | Next::Monitors => false,
-        }
-    }
-
     /// The number of siphons, if it is given.
     pub fn siphons(&self) -> Option<&str>
         ensures { option_map (λ s. s.now) result ≡ self.now.siphons }
@@ -163,7 +50,7 @@ impl Given {
         self.monitors.as_deref()
     }
 
-    /// The other words.
+    /// The names of the files.
     pub fn into_files(self) -> Vec<String>
         ensures { texts result.items ≡ self.files }
     {
@@ -171,19 +58,93 @@ impl Given {
     }
 }
 
-/// What words give; `None` exactly where one is of no known shape. The one error is want of memory.
-pub fn given_of(alloc: Global, words: &[String]) -> Result<Option<Given>, AllocError>
-    ensures { IfOk result (λ given. given ≡ spec.given_behind spec.nothing (texts words.now)) }
+/// The command line behind a command's name: names of files, and two options.
+fn behind<'a>(alloc: Global) -> Result<Command<'a>, AllocError>
+    ensures { IfOk result (λ c. app_of c ≡ app) }
 {
-    let mut given = Given::new(alloc);
-    for word in words {
-        if !given.add(word.as_str())? {
-            return Ok(None);
-        }
+    let files = Arg::new(alloc, "files").action(ArgAction::Append);
+    let siphons = Arg::new(alloc, "siphons")
+        .long("siphons")
+        .action(ArgAction::Set);
+    let monitors = Arg::new(alloc, "monitors")
+        .long("monitors")
+        .action(ArgAction::Set);
+    Command::new(alloc, "gadara")
+        .no_binary_name(true)
+        .disable_help_flag(true)
+        .disable_version_flag(true)
+        .arg(files)?
+        .arg(siphons)?
+        .arg(monitors)
+}
+
+/// A copy of a word, where there is one.
+fn copy_of(alloc: Global, word: Option<&str>) -> Result<Option<String>, AllocError>
+    ensures { IfOk result (λ copy. text_of copy ≡ option_map (λ w. w.now) word.entry) }
+{
+    match word {
+        Some(word) => Ok(Some(String::from_str(alloc, word)?)),
+        None => Ok(None),
     }
-    if given.is_complete() {
-        Ok(Some(given))
-    } else {
-        Ok(None)
+}
+
+/// A copy of each word.
+fn copies_of(alloc: Global, words: &[&str]) -> Result<Vec<String>, AllocError>
+    ensures { IfOk result (λ copies. texts copies.items ≡ map (λ w. w.now) words.now) }
+{
+    let mut copies = Vec::with_capacity(alloc, words.len())?;
+    for word in words {
+        copies.push(String::from_str(alloc, word)?)?;
+    }
+    Ok(copies)
+}
+
+/// The names of files that clap found.
+fn files_in(alloc: Global, found: &ArgMatches) -> Result<Vec<String>, AllocError>
+    ensures { IfOk result (λ files. texts files.items ≡
+        unwrap_or (all_of (codes "files") (rows_of (found_of found.now))) []) }
+{
+    match found.get_raw("files") {
+        Some(words) => copies_of(alloc, words),
+        None => Ok(Vec::new(alloc)),
+    }
+}
+
+/// What clap found.
+fn given_in(alloc: Global, found: &ArgMatches) -> Result<Given, AllocError>
+    ensures files { IfOk result (λ given. given.files ≡
+        unwrap_or (all_of (codes "files") (rows_of (found_of found.now))) []) }
+    ensures siphons { IfOk result (λ given. given.siphons ≡
+        first_of (codes "siphons") (rows_of (found_of found.now))) }
+    ensures monitors { IfOk result (λ given. given.monitors ≡
+        first_of (codes "monitors") (rows_of (found_of found.now))) }
+    ensures next { IfOk result (λ given. given.next ≡ spec.Next.any) }
+{
+    let files = files_in(alloc, found)?;
+    let siphons = copy_of(alloc, found.get_str("siphons"))?;
+    let monitors = copy_of(alloc, found.get_str("monitors"))?;
+    Ok(Given {
+        files,
+        siphons,
+        monitors,
+    })
+}
+
+/// Whether memory was wanting.
+fn is_want_of_memory(error: &Error) -> bool
+    ensures { IsTrue result ↔ (kind_of error.now ≡ OutOfMemory) }
+{
+    matches!(error.kind(), ErrorKind::OutOfMemory)
+}
+
+/// What words give: each command makes the same of it as of what they give one after the other.
+/// The one error is want of memory.
+pub fn given_of(alloc: Global, words: &[String]) -> Result<Option<Given>, AllocError>
+    ensures { IfOk result (λ given. AreAsGiven given (spec.given_behind spec.nothing (texts words.now))) }
+{
+    match behind(alloc)?.try_get_matches_from(words) {
+        Ok(found) => Ok(Some(given_in(alloc, &found)?)),
+        Err(error) if is_want_of_memory(&error) => Err(AllocError),
+        Err(_) => Ok(None),
     }
 }

@@ -2,3 +2,4 @@ mod Steps
 mod Told
 mod Ended
 mod One
+mod Followed

@@ -90,7 +90,7 @@ module _ (written : WrittenEach) (words : List (List ℕ)) (old new : Seen) (fil
 
 -- ---- the headline
 
-alone : (contents : List (List ℕ)) → length contents ≡ 1 → contents ≡ at contents 0 ∷ []
+pub alone : (contents : List (List ℕ)) → length contents ≡ 1 → contents ≡ at contents 0 ∷ []
 alone [] e = absurd (omega (arith, e))
 alone (bytes ∷ []) e = refl
 alone (bytes ∷ more ∷ rest) e = absurd (omega (arith, e))
@@ -109,7 +109,7 @@ module _ (safe : (bytes : List ℕ) → IsAccepted bytes → IsSafe bytes) (word
     safe = safe (at contents 0) cause.0;
   }
 
-  same_task : (a b : Task) → task_of words ≡ Some a → task_of words ≡ Some b → b ≡ a
+  pub same_task : (a b : Task) → task_of words ≡ Some a → task_of words ≡ Some b → b ≡ a
   same_task a b x y = let e : Some a ≡ Some b = sym x ∙ y in cc
 
   of_cause : (siphons monitors : ℕ) (file told : List ℕ) → task_of words ≡ Some (record { command = Instrument siphons monitors; files = file ∷ [] })

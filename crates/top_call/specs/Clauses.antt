@@ -10,6 +10,7 @@ use Rattle.answers.specs.Statuses.{is_written}
 use Rattle.answers.specs.Answered.{Answered}
 use Rattle.answers.specs.Causes.{CauseOf}
 use Rattle.answers.specs.Commands.{at, causes_of}
+use Rattle.answers.specs.Instrument as instrument
 use Rattle.answers.specs.Instrument.{IsSafe}
 use Rattle.answers.specs.Lines.{unread_line, unwritten_line}
 use Rattle.top_call.specs.Answers.{Fetched, Answers, files_named, read_for}
@@ -113,3 +114,26 @@ pub record AreAccepted (words : List (List ℕ)) (files : Files) : Type 0 where
 -- what is accepted is done, or is answered no, but for want of memory
 abbrev pub Complete : List (List ℕ) → Files → Status → Type 0
 Complete words files status = AreAccepted words files → (is_written status ≡ true) ⊎ (status ≡ Memory)
+
+-- ---- what follows of `instrument`
+
+-- the bytes of the file were read, and a line was complained
+pub record IsComplaintOf (words : List (List ℕ)) (old new : Seen) (bytes told : List ℕ) : Type 0 where
+  pub task : Task
+  pub asked : task_of words ≡ Some task
+  pub read : AreRead old.files task (bytes ∷ [])
+  pub said : Says told old new
+
+-- the line says why `instrument` refuses them
+pub record IsRefusedFile (words : List (List ℕ)) (file : List ℕ) (old new : Seen) : Type 0 where
+  pub bytes : List ℕ
+  pub told : List ℕ
+  pub complaint : IsComplaintOf words old new bytes told
+  pub cause : (instrument.causes file bytes).refused told
+
+-- the line says which limit they pass
+pub record IsLimitedFile (words : List (List ℕ)) (file : List ℕ) (old new : Seen) : Type 0 where
+  pub bytes : List ℕ
+  pub told : List ℕ
+  pub complaint : IsComplaintOf words old new bytes told
+  pub cause : (instrument.causes file bytes).limit told

@@ -4,6 +4,7 @@
 #![tactic(auto)]
 
 mod fetching;
+pub mod laws;
 mod telling;
 mod top;
 
