@@ -1,67 +1,46 @@
 -- Programs that can be written: their names, numbers and formats are tokens. Each program that a text spells is so.
-use Rattle.std.specs.Prelude.{ℕ, ℤ, pos, negsuc, suc, ◌≤◌, [], All, Option, Some, None}
+use Rattle.std.specs.Prelude.{ℕ, ℤ, pos, negsuc, suc, ◌≤◌, [], All, Option, Some, None, ⊤}
 use Rattle.c_lexer.specs.Words.{largest}
 use Rattle.c_lexer.specs.Tokens.{Tokens}
 use Rattle.c_layout.specs.Layout.{text, words, IsName, IsQuotable}
-use Rattle.c_tree.specs.Expressions.{Expr, Exprs, Number, Name, Element, Arg, Not, Minus, Binary, Place}
-use Rattle.c_tree.specs.Expressions as tree
-use Rattle.c_tree.specs.Bare.{Stmt, Stmts, Nil, Cons, Declare, Assign, Call, If, While, For, Return, Read, Print, Create, Join, InitMutex, InitCond, Lock, TryLock, Unlock, Wait, Signal, Broadcast, Take, Give, Cell, Array, Object, Slot, Function, Program}
+use Rattle.c_tree.specs.Expressions.{Expr, Exprs, Place}
+use Rattle.c_tree.specs.Bare.{Stmt, Stmts, Nil, Cons, If, While, For, TryLock, Cell, Array, Object, Slot, Function, Program}
+use Rattle.c_tree.specs.Leaves.{Leaves, HasLeaves, HaveLeaves, HasLeavesIfAny, PlaceLeaves, TargetLeaves, OwnLeaves}
 use Rattle.c_canonical.specs.Programs.{layout_of}
 
--- Each name has at most 63 characters, letters, digits and `_`, and each number is at most 2147483647.
-abbrev pub IsWritable : Expr → Type 0
-IsWritable (Number n) = n ≤ largest
-IsWritable (Name x) = IsName x
-IsWritable (Element x index) = IsName x × IsWritable index
-IsWritable (Arg x) = IsName x
-IsWritable (Not a) = IsWritable a
-IsWritable (Minus a) = IsWritable a
-IsWritable (Binary op a b) = IsWritable a × IsWritable b
+-- Names of at most 63 characters, letters, digits and `_`; numbers of at most 2147483647; formats that may stand in quotes.
+abbrev pub writable : Leaves
+writable = record { name = IsName; number = λ n. n ≤ largest; format = IsQuotable }
 
--- The same of each of these, of an expression that may be missing, of a place and of a target that may be missing.
+-- An expression of such names and numbers; the same of each of these, of an expression that may be missing, of a place
+-- and of a target that may be missing.
+abbrev pub IsWritable : Expr → Type 0
+IsWritable e = HasLeaves writable e
+
 abbrev pub AreWritable : Exprs → Type 0
-AreWritable tree.Nil = Unit {0}
-AreWritable (tree.Cons e es) = IsWritable e × AreWritable es
+AreWritable es = HaveLeaves writable es
 
 abbrev pub IsWritableIfAny : Option Expr → Type 0
-IsWritableIfAny None = Unit {0}
-IsWritableIfAny (Some e) = IsWritable e
+IsWritableIfAny e = HasLeavesIfAny writable e
 
 abbrev pub IsWritablePlace : Place → Type 0
-IsWritablePlace p = IsName p.name × IsWritableIfAny p.index
+IsWritablePlace p = PlaceLeaves writable p
 
 abbrev pub IsWritableTarget : Option Place → Type 0
-IsWritableTarget None = Unit {0}
-IsWritableTarget (Some p) = IsWritablePlace p
+IsWritableTarget p = TargetLeaves writable p
 
 abbrev mutual
-  -- The same of a statement; the format of a `printf` may stand in quotes.
+  -- The same of a statement and of those in its parts.
   pub IsWritableStmt : Stmt → Type 0
-  IsWritableStmt (Declare name value) = IsName name × IsWritableIfAny value
-  IsWritableStmt (Assign target value) = IsWritablePlace target × IsWritable value
-  IsWritableStmt (Call target function args) = IsWritableTarget target × IsName function × AreWritable args
   IsWritableStmt (If test then_arm else_arm) = IsWritable test × AreWritableStmts then_arm × AreWritableStmts else_arm
   IsWritableStmt (While test body) = IsWritable test × AreWritableStmts body
   IsWritableStmt (For first_part test step body) = AreWritableStmts first_part × IsWritable test × AreWritableStmts step × AreWritableStmts body
-  IsWritableStmt (Return value) = IsWritableIfAny value
-  IsWritableStmt (Read target) = IsWritablePlace target
-  IsWritableStmt (Print format args) = IsQuotable format × AreWritable args
-  IsWritableStmt (Create slot function arg) = IsWritablePlace slot × IsName function × IsWritable arg
-  IsWritableStmt (Join slot) = IsWritablePlace slot
-  IsWritableStmt (InitMutex p) = IsWritablePlace p
-  IsWritableStmt (InitCond p) = IsWritablePlace p
-  IsWritableStmt (Lock p) = IsWritablePlace p
   IsWritableStmt (TryLock p taken busy) = IsWritablePlace p × AreWritableStmts taken × AreWritableStmts busy
-  IsWritableStmt (Unlock p) = IsWritablePlace p
-  IsWritableStmt (Wait cond mutex takes) = IsWritablePlace cond × IsWritablePlace mutex × All (λ k. k ≤ largest) takes
-  IsWritableStmt (Signal cond) = IsWritablePlace cond
-  IsWritableStmt (Broadcast cond) = IsWritablePlace cond
-  IsWritableStmt (Take monitor) = monitor ≤ largest
-  IsWritableStmt (Give monitor) = monitor ≤ largest
+  IsWritableStmt s = OwnLeaves writable s
 
   -- The same of each of these.
   pub AreWritableStmts : Stmts → Type 0
-  AreWritableStmts Nil = Unit {0}
+  AreWritableStmts Nil = ⊤
   AreWritableStmts (Cons first rest) = IsWritableStmt first × AreWritableStmts rest
 
 -- A number of type `int` that is a number, or `-` and a number: all but the least one.

@@ -4,22 +4,18 @@ use Rattle.std.specs.declared.option.Option.{Option}
 use Rattle.c_tree.specs.declared.expr.Op.{Op}
 use Rattle.c_tree.specs.declared.expr.Op.TheVariants as op
 use Rattle.c_tree.specs.Values.{is_true}
-use Rattle.c_tree.specs.Expressions.{Expr, Exprs, Number, Name, Element, Arg, Not, Minus, Binary}
-use Rattle.c_tree.specs.Expressions as tree
+use Rattle.c_tree.specs.Expressions.{Expr, Exprs}
+use Rattle.c_tree.specs.Leaves.{Leaves, HasLeaves, HaveLeaves}
 
--- each number of an expression is at most 2147483647
+-- each number is at most 2147483647; names and formats are any
+abbrev pub small_numbers : Leaves
+small_numbers = record { name = λ x. ⊤; number = λ n. n ≤ 2147483647; format = λ x. ⊤ }
+
 abbrev pub HasSmallNumbers : Expr → Type 0
-HasSmallNumbers (Number k) = k ≤ 2147483647
-HasSmallNumbers (Name name) = ⊤
-HasSmallNumbers (Element name index) = HasSmallNumbers index
-HasSmallNumbers (Arg name) = ⊤
-HasSmallNumbers (Not operand) = HasSmallNumbers operand
-HasSmallNumbers (Minus operand) = HasSmallNumbers operand
-HasSmallNumbers (Binary o left right) = HasSmallNumbers left × HasSmallNumbers right
+HasSmallNumbers e = HasLeaves small_numbers e
 
 abbrev pub HaveSmallNumbers : Exprs → Type 0
-HaveSmallNumbers tree.Nil = ⊤
-HaveSmallNumbers (tree.Cons e es) = HasSmallNumbers e × HaveSmallNumbers es
+HaveSmallNumbers es = HaveLeaves small_numbers es
 
 -- what the left side of an operator alone decides
 abbrev pub decided : Op → ℤ → Option ℤ

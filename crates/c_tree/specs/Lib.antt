@@ -4,3 +4,4 @@ pub mod Lined
 pub mod Values
 pub mod Numbering
 pub mod Everywhere
+pub mod Leaves

@@ -16,7 +16,7 @@ use Rattle.state_parts.specs.Small.{IsSmallIfAny, IsSmallPlace, IsSmallTarget, I
 expression_small : (e : Expr) → IsWritable e → HasSmallNumbers e
 expression_small (Number k) w = w
 expression_small (Name name) w = tt
-expression_small (Element name index) w = expression_small index w.1
+expression_small (Element name index) w = (tt, expression_small index w.1)
 expression_small (Arg name) w = tt
 expression_small (Not a) w = expression_small a w
 expression_small (Minus a) w = expression_small a w
@@ -31,7 +31,7 @@ small_if_any None w = tt
 small_if_any (Some e) w = expression_small e w
 
 place_small : (place : Place) → IsWritablePlace place → IsSmallPlace place
-place_small place w = small_if_any place.index w.1
+place_small place w = (tt, small_if_any place.index w.1)
 
 target_small : (target : Option Place) → IsWritableTarget target → IsSmallTarget target
 target_small None w = tt
@@ -40,27 +40,27 @@ target_small (Some place) w = place_small place w
 -- ---- statements
 
 statement_small : (s : Stmt) → IsWritableStmt s → IsSmall s
-statement_small (Declare name value) w = small_if_any value w.1
+statement_small (Declare name value) w = (tt, small_if_any value w.1)
 statement_small (Assign target value) w = (place_small target w.0, expression_small value w.1)
-statement_small (Call target function args) w = (target_small target w.0, expressions_small args w.2)
+statement_small (Call target function args) w = (target_small target w.0, tt, expressions_small args w.2)
 statement_small (If test then_arm else_arm) w = expression_small test w.0
 statement_small (While test body) w = expression_small test w.0
 statement_small (For first_part test step body) w = expression_small test w.1
 statement_small (Return value) w = small_if_any value w
 statement_small (Read target) w = place_small target w
-statement_small (Print format args) w = expressions_small args w.1
-statement_small (Create slot function arg) w = expression_small arg w.2
-statement_small (Join slot) w = tt
+statement_small (Print format args) w = (tt, expressions_small args w.1)
+statement_small (Create slot function arg) w = (place_small slot w.0, tt, expression_small arg w.2)
+statement_small (Join slot) w = place_small slot w
 statement_small (InitMutex place) w = place_small place w
 statement_small (InitCond place) w = place_small place w
 statement_small (Lock place) w = place_small place w
 statement_small (TryLock place taken busy) w = place_small place w.0
 statement_small (Unlock place) w = place_small place w
-statement_small (Wait cond mutex takes) w = (place_small cond w.0, place_small mutex w.1)
+statement_small (Wait cond mutex takes) w = (place_small cond w.0, place_small mutex w.1, w.2)
 statement_small (Signal cond) w = place_small cond w
 statement_small (Broadcast cond) w = place_small cond w
-statement_small (Take monitor) w = tt
-statement_small (Give monitor) w = tt
+statement_small (Take monitor) w = w
+statement_small (Give monitor) w = w
 
 mutual
   statements_small : (ss : Stmts) → AreWritableStmts ss → Everywhere IsSmall ss

@@ -1,0 +1,13 @@
+pub mod Holdings
+pub mod Goings
+pub mod Ready
+pub mod Wakings
+pub mod Acts
+pub mod Here
+pub mod Chains
+pub mod Quiets
+pub mod Steps
+pub mod Fits
+pub mod Starts
+pub mod Wanted
+pub mod Reaching
