@@ -3,10 +3,11 @@ use Rattle.std.proofs.Common.{◌≡◌, false, Some, refl, sym, subst, ap, ◌�
 use Rattle.std.specs.Prelude.{IsTrue}
 use Rattle.c_tree.specs.declared.program.Kind.{Kind}
 use Rattle.c_tree.specs.Bare as bare
+use Rattle.c_tree.specs.Everywhere.{Everywhere, EverywhereInside}
 use Rattle.c_tree.specs.Lined.{Stmt, Stmts, Nil, Cons, Take, Give, bare_stmt, bare_stmts}
 use Rattle.c_canonical.specs.Shaped.{ShapedStep, ShapedFirst, ShapedStmt, ShapedStmts}
 use Rattle.kept_rules.specs.Edit.{Way, puts, EditOf, Edits}
-use Rattle.kept_shape.specs.Edited.{ReadsAsUsable, PutsNone, HasPlainHeads, HavePlainHeads}
+use Rattle.kept_shape.specs.Edited.{UsesFit, PutsNone, HasPlainHeads, HavePlainHeads}
 
 -- ---- the heads of `for`
 
@@ -50,25 +51,25 @@ put_shaped r k (Give line monitor) is = tt
 put_shaped r k s is = absurd (cc is)
 
 mutual
-  pub edit_shaped : (r : Way) (k : Kind) → ReadsAsUsable r.name → {s t : Stmt} → EditOf r s t → HasPlainHeads r s → ShapedStmt k (bare_stmt t) → ShapedStmt k (bare_stmt s)
-  edit_shaped r k u (EditOf.same s t a b e) h f = subst (ShapedStmt k) (sym e) f
-  edit_shaped r k u (EditOf.call l m target name args) h f = (f.0, u.called name f.1, f.2)
-  edit_shaped r k u (EditOf.create l m slot name arg) h f = (f.0, u.started name f.1, f.2)
-  edit_shaped r k u (EditOf.wait l m cond mutex takes others x) h f = f
-  edit_shaped r k u (EditOf.attempt l m place a b c d x y) h f = (f.0, edits_shaped r k u x h.0 f.1, edits_shaped r k u y h.1 f.2)
-  edit_shaped r k u (EditOf.branch l m test a b c d x y) h f = (f.0, edits_shaped r k u x h.0 f.1, edits_shaped r k u y h.1 f.2)
-  edit_shaped r k u (EditOf.loop l m test a c x) h f = (f.0, edits_shaped r k u x h f.1)
-  edit_shaped r k u (EditOf.counted l m test first_part step body first_other step_other other x y z) h f = (
+  pub edit_shaped : (r : Way) (k : Kind) {s t : Stmt} → UsesFit r.name (bare_stmt s) → EverywhereInside (UsesFit r.name) (bare_stmt s) → EditOf r s t → HasPlainHeads r s → ShapedStmt k (bare_stmt t) → ShapedStmt k (bare_stmt s)
+  edit_shaped r k u v (EditOf.same s t a b e) h f = subst (ShapedStmt k) (sym e) f
+  edit_shaped r k u v (EditOf.call l m target name args) h f = (f.0, u f.1, f.2)
+  edit_shaped r k u v (EditOf.create l m slot name arg) h f = (f.0, u f.1, f.2)
+  edit_shaped r k u v (EditOf.wait l m cond mutex takes others x) h f = f
+  edit_shaped r k u v (EditOf.attempt l m place a b c d x y) h f = (f.0, edits_shaped r k v.0 x h.0 f.1, edits_shaped r k v.1 y h.1 f.2)
+  edit_shaped r k u v (EditOf.branch l m test a b c d x y) h f = (f.0, edits_shaped r k v.0 x h.0 f.1, edits_shaped r k v.1 y h.1 f.2)
+  edit_shaped r k u v (EditOf.loop l m test a c x) h f = (f.0, edits_shaped r k v x h f.1)
+  edit_shaped r k u v (EditOf.counted l m test first_part step body first_other step_other other x y z) h f = (
     subst ShapedFirst (sym (heads_same r x h.0 (first_heads (bare_stmts first_other) f.0))) f.0,
     f.1,
     subst ShapedStep (sym (heads_same r y h.1 (step_heads (bare_stmts step_other) f.2))) f.2,
-    edits_shaped r k u z h.2 f.3,
+    edits_shaped r k v.2 z h.2 f.3,
   )
 
-  pub edits_shaped : (r : Way) (k : Kind) → ReadsAsUsable r.name → {ss ts : Stmts} → Edits r ss ts → HavePlainHeads r ss → ShapedStmts k (bare_stmts ts) → ShapedStmts k (bare_stmts ss)
+  pub edits_shaped : (r : Way) (k : Kind) {ss ts : Stmts} → Everywhere (UsesFit r.name) (bare_stmts ss) → Edits r ss ts → HavePlainHeads r ss → ShapedStmts k (bare_stmts ts) → ShapedStmts k (bare_stmts ss)
   edits_shaped r k u Edits.none h f = tt
-  edits_shaped r k u (Edits.put s ss ts is more) h f = (put_shaped r k s is, edits_shaped r k u more h.1 f)
-  edits_shaped r k u (Edits.keep s t ss ts e more) h f = (edit_shaped r k u e h.0 f.0, edits_shaped r k u more h.1 f.1)
+  edits_shaped r k u (Edits.put s ss ts is more) h f = (put_shaped r k s is, edits_shaped r k u.2 more h.1 f)
+  edits_shaped r k u (Edits.keep s t ss ts e more) h f = (edit_shaped r k u.0 u.1 e h.0 f.0, edits_shaped r k u.2 more h.1 f.1)
 
 -- ---- where nothing may be put in
 

@@ -1,2 +1,4 @@
-pub mod Bodies
-pub mod Programs
+mod Bodies
+mod Names
+mod Copied
+mod Programs

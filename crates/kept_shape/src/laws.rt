@@ -3,9 +3,9 @@
 ghost use Rattle.kept_shape.specs.Edited.{EditsKeepTheShape, PutsKeepTheShape, CopiesKeepTheShape, LinesDoNotMatter};
 
 /// A program with functions copied and renamed, with takes and gives of monitors put in and on other
-/// lines is shaped as tokens spell programs, where the names of its functions can be used as those that
-/// they are read as, nothing is put into the head of a `for`, and capacities have a number where there
-/// are some.
+/// lines is shaped as tokens spell programs, where the names that it calls, starts and declares can be
+/// used as those that they are read as, nothing is put into the head of a `for`, and capacities have a
+/// number where there are some.
 pub fn edits_keep_the_shape()
     ensures { EditsKeepTheShape }
 {}
@@ -16,8 +16,7 @@ pub fn puts_keep_the_shape()
     ensures { PutsKeepTheShape }
 {}
 
-/// A program whose functions are copied, and called by the names of copies, has the shape, where these
-/// names can be used as those that they are read as.
+/// A program whose functions are copied, and called by the names of copies, has the shape.
 pub fn copies_keep_the_shape()
     ensures { CopiesKeepTheShape }
 {}
