@@ -1,0 +1,4 @@
+pub mod Points
+pub mod Accounts
+pub mod Laws
+pub mod StuckSets
