@@ -2,9 +2,12 @@
 #![tactic(auto)]
 
 ghost use Rattle.std.specs.Prelude.{IfSome};
+ghost use Rattle.c_canonical.specs.ShapedPrograms.{ShapedProgram};
+ghost use Rattle.c_tree.specs.Lined.{bare_program, program_of};
 ghost use Rattle.state_parts.specs.Accepted.{Accepted};
 ghost use Rattle.state_parts.specs.Small.{AreSmall};
 
+use c_canonical::spelled_is_shaped;
 use c_check::check;
 use c_parser::parse;
 use c_tree::{Mode, Program};
@@ -20,11 +23,13 @@ pub const LONGEST: usize = 1000000;
 pub fn accepted(alloc: Global, text: &[u8]) -> Option<Program>
     ensures accepted { IfSome result Accepted }
     ensures small { IfSome result AreSmall }
+    ensures shaped { IfSome result (λ p. ShapedProgram (bare_program (program_of p))) }
 {
     if text.len() > LONGEST {
         return None;
     }
     spelled_is_small();
+    spelled_is_shaped();
     let Ok(program) = parse(alloc, text) else {
         return None;
     };

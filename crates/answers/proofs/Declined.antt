@@ -14,6 +14,10 @@ use Rattle.c_check.specs.Checked.{IsRefusal}
 use Rattle.c_meaning.specs.declared.Event.{Event}
 use Rattle.c_parser.specs.declared.error.ParseError.{ParseError}
 use Rattle.c_parser.specs.Parsed.{Parsed, RefusedBy, SpelledBy}
+use Rattle.contexts.specs.Walk.{Unresolved, TooMany}
+use Rattle.context_walk.specs.declared.marks.ContextError.{ContextError}
+use Rattle.context_walk.specs.Found as walked
+use Rattle.contexts.specs.Outlines.{outlines, context_limit}
 use Rattle.first_form.specs.FirstForm.{first_nested}
 use Rattle.first_form.specs.Size.{has_first_text}
 use Rattle.schedule_texts.specs.Schedules as schedules
@@ -30,6 +34,7 @@ use Rattle.answers.specs.Lines.{not_built_line}
 use Rattle.answers.specs.Programs as programs
 use Rattle.answers.specs.Programs.{SpellsFormed, flaws}
 use Rattle.answers.specs.Instrument as instrument
+use Rattle.answers.specs.Instrument.{IsResolved}
 use Rattle.answers.specs.Run as run
 use Rattle.answers.specs.Run.{Texts, schedule_flaws, input_flaws, status_of, traced_answer}
 use Rattle.answers.specs.Traced.{trace_text}
@@ -134,12 +139,25 @@ pub and_first : (x y : Bool) → (x && y) ≡ true → x ≡ true
 and_first true y e = refl
 and_first false y e = absurd cc
 
-pub nested_at : (name bytes : List ℕ) (r : Refusal) (p : lined.Program) (built : Bool) (found : Option ℕ) (line : ℕ) → SpellsFormed Source bytes p
+pub nested_at : (name bytes : List ℕ) (r : Refusal) (p : lined.Program) (built : Bool) (found : Option ℕ) (line : ℕ) → SpellsFormed Source bytes p → IsResolved p
     → built ≡ has_first_text (bare_program p) → built ≡ true → found ≡ first_nested p → found ≡ Some line
     → RefusedAs r name line (codes "lock while a mutex is held") → Declines (instrument.causes name bytes) r
-nested_at name bytes (Told a) p built found line spells same first found_is some so =
-    rw so (instrument.Refuses.nested line (record { program = p; spells = spells; first_form = sym same ∙ first; nested = sym found_is ∙ some }) refl)
-nested_at name bytes Memory p built found line spells same first found_is some so = tt
+nested_at name bytes (Told a) p built found line spells resolved same first found_is some so =
+    rw so (instrument.Refuses.nested line (record { program = p; spells = spells; resolved = resolved; first_form = sym same ∙ first; nested = sym found_is ∙ some }) refl)
+nested_at name bytes Memory p built found line spells resolved same first found_is some so = tt
+
+pub refused_so : (p : lined.Program) (e f : ContextError) → walked.IsRefusal e (outlines p) → e ≡ f → walked.IsRefusal f (outlines p)
+refused_so p e f x same = subst (λ (z : ContextError). walked.IsRefusal z (outlines p)) same x
+
+pub unresolved_at : (name bytes : List ℕ) (r : Refusal) (p : lined.Program) (line : ℕ) → SpellsFormed Source bytes p → outlines p ≡ Unresolved line
+    → RefusedAs r name line (codes "lock is not constant in its context") → Declines (instrument.causes name bytes) r
+unresolved_at name bytes (Told a) p line spells walk so = rw so (instrument.Refuses.unresolved line (record { program = p; spells = spells; unresolved = walk }) refl)
+unresolved_at name bytes Memory p line spells walk so = tt
+
+pub many_contexts : (name bytes : List ℕ) (r : Refusal) (p : lined.Program) → SpellsFormed Source bytes p → outlines p ≡ TooMany
+    → LimitedAs r name (codes "contexts") context_limit → Declines (instrument.causes name bytes) r
+many_contexts name bytes (Told a) p spells walk so = rw so (instrument.Limits.contexts (record { program = p; spells = spells; many = walk }) refl)
+many_contexts name bytes Memory p spells walk so = tt
 
 -- ---- `run`
 

@@ -4,17 +4,20 @@ use Rattle.std.specs.Prelude.{codes}
 use Rattle.c_tree.specs.declared.program.Mode.TheVariants.{Source}
 use Rattle.c_tree.specs.Lined as lined
 use Rattle.c_tree.specs.Lined.{bare_program}
+use Rattle.outlines.specs.Outline.{Thread}
+use Rattle.contexts.specs.Walk.{Walked, Found, Unresolved, TooMany}
+use Rattle.contexts.specs.Outlines.{outlines, context_limit}
 use Rattle.first_form.specs.FirstForm.{first_nested}
 use Rattle.first_form.specs.Size.{has_first_text}
 use Rattle.answers.specs.declared.status.Status.{Status}
 use Rattle.answers.specs.declared.status.Status.TheVariants as status
 use Rattle.answers.specs.Answered.{Answered, telling}
 use Rattle.answers.specs.Causes.{CauseOf, Decides, HasAnswer, HasOneAnswer}
-use Rattle.answers.specs.Lines.{refused_line, not_built_line}
+use Rattle.answers.specs.Lines.{refused_line, limit_line, not_built_line}
 use Rattle.answers.specs.Programs.{SpellsFormed, flaws}
 use Rattle.answers.specs.Statuses.{is_written}
 use Rattle.answers.specs.Instrument as instrument
-use Rattle.answers.specs.Instrument.{causes, IsAccepted}
+use Rattle.answers.specs.Instrument.{causes, IsAccepted, IsResolved}
 use Rattle.answers.proofs.Judging.{RuleLaws}
 use Rattle.answers.proofs.Verdicts.{Verdict, IsVerdict, one_verdict, some_verdict}
 
@@ -24,7 +27,7 @@ flawed_is name bytes status.Done told x = absurd x
 flawed_is name bytes status.No told x = absurd x
 flawed_is name bytes status.Usage told x = absurd x
 flawed_is name bytes status.Refused told x = instrument.Refuses.flawed x
-flawed_is name bytes status.Limit told x = x
+flawed_is name bytes status.Limit told x = instrument.Limits.flawed x
 flawed_is name bytes status.NoMonitor told x = absurd x
 flawed_is name bytes status.HostFault told x = absurd x
 flawed_is name bytes status.Memory told x = absurd x
@@ -33,13 +36,21 @@ module _ (laws : RuleLaws) (name bytes : List ℕ) where
   abbrev nested_reason : List ℕ
   nested_reason = codes "lock while a mutex is held"
 
+  abbrev unresolved_reason : List ℕ
+  unresolved_reason = codes "lock is not constant in its context"
+
   abbrev first_by : Bool → Option ℕ → Answered
   first_by false found = telling status.Refused (not_built_line name)
   first_by true None = telling status.Done bytes
   first_by true (Some line) = telling status.Refused (refused_line name line nested_reason)
 
+  abbrev walked_by : Walked (List Thread) → Answered → Answered
+  walked_by (Found xs n) behind = behind
+  walked_by (Unresolved line) behind = telling status.Refused (refused_line name line unresolved_reason)
+  walked_by TooMany behind = telling status.Limit (limit_line name (codes "contexts") context_limit)
+
   abbrev answer_by : Verdict → Answered
-  answer_by (Verdict.formed p) = first_by (has_first_text (bare_program p)) (first_nested p)
+  answer_by (Verdict.formed p) = walked_by (outlines p) (first_by (has_first_text (bare_program p)) (first_nested p))
   answer_by (Verdict.flawed a) = a
 
   record Comes (a : Answered) : Type 0 where
@@ -47,20 +58,45 @@ module _ (laws : RuleLaws) (name bytes : List ℕ) where
     is : IsVerdict Source name bytes verdict
     same : a ≡ answer_by verdict
 
+  -- a program whose locks are resolved is answered by its form
+  of_form : (p : lined.Program) → SpellsFormed Source bytes p → IsResolved p → (built : Bool) → has_first_text (bare_program p) ≡ built → (found : Option ℕ) → first_nested p ≡ found
+      → (a : Answered) → a ≡ first_by built found → Comes a
+  of_form p spells resolved built form found nested a is = record {
+    verdict = Verdict.formed p;
+    is = spells;
+    same = is ∙ sym (ap (λ b. first_by b found) form) ∙ sym (ap (first_by (has_first_text (bare_program p))) nested) ∙ sym (ap (λ w. walked_by w (first_by (has_first_text (bare_program p)) (first_nested p))) resolved.found);
+  }
+
+  of_other : (p : lined.Program) → SpellsFormed Source bytes p → IsResolved p → has_first_text (bare_program p) ≡ false → (a : Answered) → a ≡ telling status.Refused (not_built_line name) → Comes a
+  of_other p spells resolved other a is = of_form p spells resolved false other (first_nested p) refl a is
+
+  of_walk : (p : lined.Program) → SpellsFormed Source bytes p → (w : Walked (List Thread)) → outlines p ≡ w → (a : Answered)
+      → a ≡ walked_by w (first_by (has_first_text (bare_program p)) (first_nested p)) → Comes a
+  of_walk p spells w walk a is = record {
+    verdict = Verdict.formed p;
+    is = spells;
+    same = is ∙ sym (ap (λ v. walked_by v (first_by (has_first_text (bare_program p)) (first_nested p))) walk);
+  }
+
   refused_comes : (told : List ℕ) → instrument.Refuses name bytes told → Comes (telling status.Refused told)
   refused_comes told (instrument.Refuses.flawed x) = record { verdict = Verdict.flawed (telling status.Refused told); is = x; same = refl }
-  refused_comes told (instrument.Refuses.nested line x says) = record { verdict = Verdict.formed x.program; is = x.spells; same = rw (x.first_form, x.nested, says) refl }
-  refused_comes told (instrument.Refuses.not_built x says) = record { verdict = Verdict.formed x.program; is = x.spells; same = rw (x.other, says) refl }
+  refused_comes told (instrument.Refuses.unresolved line x says) = of_walk x.program x.spells (Unresolved line) x.unresolved (telling status.Refused told) (ap (telling status.Refused) says)
+  refused_comes told (instrument.Refuses.nested line x says) = of_form x.program x.spells x.resolved true x.first_form (Some line) x.nested (telling status.Refused told) (ap (telling status.Refused) says)
+  refused_comes told (instrument.Refuses.not_built x says) = of_other x.program x.spells x.resolved x.other (telling status.Refused told) (ap (telling status.Refused) says)
+
+  limited_comes : (told : List ℕ) → instrument.Limits name bytes told → Comes (telling status.Limit told)
+  limited_comes told (instrument.Limits.flawed x) = record { verdict = Verdict.flawed (telling status.Limit told); is = x; same = refl }
+  limited_comes told (instrument.Limits.contexts x says) = of_walk x.program x.spells TooMany x.many (telling status.Limit told) (ap (telling status.Limit) says)
 
   done_comes : (told : List ℕ) (x : IsAccepted bytes) → told ≡ bytes → Comes (telling status.Done told)
-  done_comes told x says = record { verdict = Verdict.formed x.program; is = x.spells; same = rw (x.first_form, x.not_nested, says) refl }
+  done_comes told x says = of_form x.program x.spells x.resolved true x.first_form None x.not_nested (telling status.Done told) (ap (telling status.Done) says)
 
   comes : (s : Status) (told : List ℕ) → CauseOf (causes name bytes) s told → Comes (telling s told)
   comes status.Done told x = done_comes told x.0 x.1
   comes status.No told x = absurd x
   comes status.Usage told x = absurd x
   comes status.Refused told x = refused_comes told x
-  comes status.Limit told x = record { verdict = Verdict.flawed (telling status.Limit told); is = x; same = refl }
+  comes status.Limit told x = limited_comes told x
   comes status.NoMonitor told x = absurd x
   comes status.HostFault told x = absurd x
   comes status.Memory told x = absurd x
@@ -77,23 +113,35 @@ module _ (laws : RuleLaws) (name bytes : List ℕ) where
 
   -- ---- there is one
 
-  formed_answer : (p : lined.Program) → SpellsFormed Source bytes p → (built : Bool) → has_first_text (bare_program p) ≡ built
+  resolved_answer : (p : lined.Program) → SpellsFormed Source bytes p → IsResolved p → (built : Bool) → has_first_text (bare_program p) ≡ built
       → (found : Option ℕ) → first_nested p ≡ found → HasAnswer (causes name bytes)
-  formed_answer p spells false other found e = record {
+  resolved_answer p spells resolved false other found e = record {
     answer = telling status.Refused (not_built_line name);
-    is = instrument.Refuses.not_built (record { program = p; spells = spells; other = other }) refl;
+    is = instrument.Refuses.not_built (record { program = p; spells = spells; resolved = resolved; other = other }) refl;
   }
-  formed_answer p spells true first None e = record {
+  resolved_answer p spells resolved true first None e = record {
     answer = telling status.Done bytes;
-    is = (record { program = p; spells = spells; first_form = first; not_nested = e }, refl);
+    is = (record { program = p; spells = spells; resolved = resolved; first_form = first; not_nested = e }, refl);
   }
-  formed_answer p spells true first (Some line) e = record {
+  resolved_answer p spells resolved true first (Some line) e = record {
     answer = telling status.Refused (refused_line name line nested_reason);
-    is = instrument.Refuses.nested line (record { program = p; spells = spells; first_form = first; nested = e }) refl;
+    is = instrument.Refuses.nested line (record { program = p; spells = spells; resolved = resolved; first_form = first; nested = e }) refl;
+  }
+
+  formed_answer : (p : lined.Program) → SpellsFormed Source bytes p → (w : Walked (List Thread)) → outlines p ≡ w → HasAnswer (causes name bytes)
+  formed_answer p spells (Found xs n) walk =
+      resolved_answer p spells (record { threads = xs; contexts = n; found = walk }) (has_first_text (bare_program p)) refl (first_nested p) refl
+  formed_answer p spells (Unresolved line) walk = record {
+    answer = telling status.Refused (refused_line name line unresolved_reason);
+    is = instrument.Refuses.unresolved line (record { program = p; spells = spells; unresolved = walk }) refl;
+  }
+  formed_answer p spells TooMany walk = record {
+    answer = telling status.Limit (limit_line name (codes "contexts") context_limit);
+    is = instrument.Limits.contexts (record { program = p; spells = spells; many = walk }) refl;
   }
 
   answer_of : (v : Verdict) → IsVerdict Source name bytes v → HasAnswer (causes name bytes)
-  answer_of (Verdict.formed p) x = formed_answer p x (has_first_text (bare_program p)) refl (first_nested p) refl
+  answer_of (Verdict.formed p) x = formed_answer p x (outlines p) refl
   answer_of (Verdict.flawed a) x = record { answer = a; is = flawed_is name bytes a.status a.told x }
 
   pub some_answer : HasAnswer (causes name bytes)

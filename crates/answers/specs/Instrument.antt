@@ -5,18 +5,41 @@ use Rattle.c_tree.specs.Lined as lined
 use Rattle.c_tree.specs.Lined.{bare_program}
 use Rattle.c_parser.specs.Parsed.{SpelledBy}
 use Rattle.c_meaning.specs.Stuck.{NeverStuck}
+use Rattle.outlines.specs.Outline.{Thread}
+use Rattle.contexts.specs.Walk.{Found, Unresolved, TooMany}
+use Rattle.contexts.specs.Outlines.{outlines, context_limit}
 use Rattle.first_form.specs.FirstForm.{first_nested}
 use Rattle.first_form.specs.Size.{has_first_text}
 use Rattle.answers.specs.Causes.{Causes}
-use Rattle.answers.specs.Lines.{refused_line, not_built_line}
+use Rattle.answers.specs.Lines.{refused_line, limit_line, not_built_line}
 use Rattle.answers.specs.Programs as programs
-use Rattle.answers.specs.Programs.{SpellsFormed, Limits}
+use Rattle.answers.specs.Programs.{SpellsFormed}
+
+-- each lock that the walk through the contexts of a program meets is constant in its context, and there are no more than 256
+pub record IsResolved (program : lined.Program) : Type 0 where
+  pub threads : List Thread
+  pub contexts : List ℕ
+  pub found : outlines program ≡ Found threads contexts
+
+-- a text spells a well-formed program without monitors, and this is the line of the first lock that the walk meets which
+-- isn't constant in its context
+pub record HasUnresolved (bytes : List ℕ) (line : ℕ) : Type 0 where
+  pub program : lined.Program
+  pub spells : SpellsFormed Source bytes program
+  pub unresolved : outlines program ≡ Unresolved line
+
+-- a text spells such a program, and the walk meets one context more than there may be before any such lock
+pub record HasManyContexts (bytes : List ℕ) : Type 0 where
+  pub program : lined.Program
+  pub spells : SpellsFormed Source bytes program
+  pub many : outlines program ≡ TooMany
 
 -- a text spells a well-formed program without monitors that some text of the first form spells too, in which no lock
 -- stands below another that isn't unlocked since
 pub record IsAccepted (bytes : List ℕ) : Type 0 where
   pub program : lined.Program
   pub spells : SpellsFormed Source bytes program
+  pub resolved : IsResolved program
   pub first_form : has_first_text (bare_program program) ≡ true
   pub not_nested : first_nested program ≡ None
 
@@ -24,6 +47,7 @@ pub record IsAccepted (bytes : List ℕ) : Type 0 where
 pub record HasNestedLock (bytes : List ℕ) (line : ℕ) : Type 0 where
   pub program : lined.Program
   pub spells : SpellsFormed Source bytes program
+  pub resolved : IsResolved program
   pub first_form : has_first_text (bare_program program) ≡ true
   pub nested : first_nested program ≡ Some line
 
@@ -31,13 +55,20 @@ pub record HasNestedLock (bytes : List ℕ) (line : ℕ) : Type 0 where
 pub record IsOfOtherForm (bytes : List ℕ) : Type 0 where
   pub program : lined.Program
   pub spells : SpellsFormed Source bytes program
+  pub resolved : IsResolved program
   pub other : has_first_text (bare_program program) ≡ false
 
 -- the lines that say why a text isn't taken
 pub data Refuses (name bytes told : List ℕ) : Type 0 where
   flawed : programs.Refuses Source name bytes told → Refuses name bytes told
+  unresolved : (line : ℕ) → HasUnresolved bytes line → told ≡ refused_line name line (codes "lock is not constant in its context") → Refuses name bytes told
   nested : (line : ℕ) → HasNestedLock bytes line → told ≡ refused_line name line (codes "lock while a mutex is held") → Refuses name bytes told
   not_built : IsOfOtherForm bytes → told ≡ not_built_line name → Refuses name bytes told
+
+-- the lines that say which limit a text passes
+pub data Limits (name bytes told : List ℕ) : Type 0 where
+  flawed : programs.Limits Source name bytes told → Limits name bytes told
+  contexts : HasManyContexts bytes → told ≡ limit_line name (codes "contexts") context_limit → Limits name bytes told
 
 -- the bytes of an accepted file are handed back
 abbrev pub causes : List ℕ → List ℕ → Causes
@@ -46,7 +77,7 @@ causes name bytes = record {
   done = λ told. IsAccepted bytes × (told ≡ bytes);
   no = λ told. ⊥;
   refused = Refuses name bytes;
-  limit = Limits Source name bytes;
+  limit = Limits name bytes;
   no_monitor = λ told. ⊥;
 }
 

@@ -1,5 +1,5 @@
 -- Answers that come before the work of a command is done.
-use Rattle.std.specs.Prelude.{◌≡◌, ℕ, List, Result, Ok, Err, ⊤}
+use Rattle.std.specs.Prelude.{◌≡◌, ◌≤◌, ℕ, List, length, Result, Ok, Err, ⊤}
 use Rattle.c_tree.specs.declared.program.Mode.{Mode}
 use Rattle.c_tree.specs.Lined.{program_of}
 use Rattle.c_check.specs.Tables.{numbers, numbers_of}
@@ -33,7 +33,8 @@ abbrev pub LimitedAs : Refusal → List ℕ → List ℕ → ℕ → Type 0
 LimitedAs (Told answer) name what number = answer ≡ telling Limit (limit_line name what number)
 LimitedAs Memory name what number = ⊤
 
--- a text was read as a well-formed program, with its numbers
+-- a text was read as a well-formed program of no more functions than tokens are read, with its numbers
 pub record IsRead (mode : Mode) (bytes : List ℕ) (read : Formed) : Type 0 where
   pub spells : SpellsFormed mode bytes (program_of read.program)
+  pub few : length read.program.functions ≤ 65536
   pub table : numbers read.table ≡ numbers_of (shown read.program)

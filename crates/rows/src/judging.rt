@@ -4,6 +4,7 @@ use crate::calls::{Call, Files, judge_call};
 use crate::changes::{Sample, judge_changes};
 use crate::items::{fields, is_inner, is_silent, worded};
 use crate::report::Report;
+use crate::resolving::judge_contexts;
 use crate::runs::judge_run;
 use crate::said::{read, ruled};
 use crate::schedules::{input_read, schedule_read};
@@ -122,6 +123,21 @@ impl Scene {
         };
         let answer = ruled(alloc, text.as_slice(), Mode::Source)?;
         report.compare(alloc, rest, answer.as_str(), wanted.unwrap_or(""))?;
+        Ok(true)
+    }
+
+    /// How many contexts a program has. Whether the row is one.
+    fn judge_places(
+        &self,
+        alloc: Global,
+        rest: &str,
+        report: &mut Report,
+    ) -> Result<bool, AllocError> {
+        let (text, wanted) = fields(rest);
+        let Some(text) = self.framed(alloc, text)? else {
+            return Ok(false);
+        };
+        judge_contexts(alloc, text.as_slice(), rest, wanted.unwrap_or(""), report)?;
         Ok(true)
     }
 
@@ -284,6 +300,7 @@ impl Scene {
             "rules" => self.judge_rules(alloc, rest, report),
             "source" => self.judge_source(alloc, rest, report),
             "each" => self.judge_each(alloc, rest, report),
+            "contexts" => self.judge_places(alloc, rest, report),
             "table" => self.judge_numbers(alloc, rest, block, report),
             "schedule" | "input" => self.judge_events_text(alloc, word, rest, report),
             "run" => self.judge_events(alloc, rest, block, report),

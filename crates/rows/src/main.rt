@@ -19,6 +19,7 @@
 //! input TEXT ~ ANSWER                    the numbers of an input, or what is wrong
 //! run TEXT [~ NUMBER ..]                 a run with this input, a line for each event and for what is seen then
 //! trace TEXT ~ TEXT ~ TEXT               the trace of a program by a schedule on an input: the lines, and how it ended
+//! contexts TEXT ~ COUNT [NAME COUNT ..]  how many contexts a program has, and each of its functions that has more than one
 //! file NAME ~ TEXT                       a file of the host in memory
 //! call WORDS ~ STATUS ~ OUT ~ ERR [~ ROOM [~ FAILS]]   how the tool ends, and what it writes; two quotes are an empty word
 //! ```
@@ -31,6 +32,7 @@ mod changes;
 mod items;
 mod judging;
 mod report;
+mod resolving;
 mod runs;
 mod said;
 mod schedules;

@@ -4,7 +4,7 @@ use Rattle.c_tree.specs.Lined.{stmts_of}
 use Rattle.context_items.specs.Items as spec
 use Rattle.context_walk.specs.declared.items.Item.TheVariants as v
 use Rattle.context_walk.specs.Shown.{shown_items, block_items, list_items}
-use Rattle.context_walk.proofs.Shown as shown
+use Rattle.context_locals.proofs.Shown as shown
 use Rattle.context_walk.proofs.Pushes.{pushed, block_pushed, arms_pushed, tried_pushed, loop_pushed, turn, ended, left_items}
 use Rattle.context_walk.proofs.items.+items.Goals as goal
 
