@@ -1,0 +1,9 @@
+pub mod Keeping
+pub mod Small
+pub mod Walking
+pub mod Edging
+pub mod Holding
+pub mod Taking
+pub mod Finishing
+pub mod Before
+pub mod Matching

@@ -1,0 +1,10 @@
+pub mod Pieces
+pub mod Places
+pub mod Courses
+pub mod Walks
+pub mod Errors
+pub mod Backward
+pub mod Shown
+pub mod Found
+pub mod Taken
+pub mod Nets
