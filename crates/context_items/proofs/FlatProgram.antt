@@ -60,7 +60,7 @@ or_false : (b : Bool) → (b || false) ≡ b
 or_false true = refl
 or_false false = refl
 
-bear_same : (above other : List ℕ → Bool) → ((name : List ℕ) → above name ≡ other name) → (ss : Stmts) → items_bear above (items_all ss []) ≡ bears_all other ss
+pub bear_same : (above other : List ℕ → Bool) → ((name : List ℕ) → above name ≡ other name) → (ss : Stmts) → items_bear above (items_all ss []) ≡ bears_all other ss
 bear_same above other same ss =
     ap (λ (f : List ℕ → Bool). items_bear f (items_all ss [])) (equal above other same) ∙ bear_list other ss [] ∙ or_false (bears_all other ss)
   where

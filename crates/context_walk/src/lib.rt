@@ -13,5 +13,6 @@ mod starts;
 mod steps;
 mod walk;
 
+pub use functions::{Functions, Prepared};
 pub use marks::{ContextError, Contexts, Mark};
 pub use starts::resolve;

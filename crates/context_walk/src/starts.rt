@@ -119,7 +119,7 @@ impl<'p> Functions<'p> {
     }
 
     /// The function that is named main.
-    fn main(&self) -> &'p Function
+    pub fn main(&self) -> &'p Function
         requires prepared { ArePrepared self.now }
         requires regular { Regular (program_in self.now) }
         requires small { AreSmall self.now.program.now }
