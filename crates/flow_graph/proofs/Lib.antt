@@ -1,0 +1,10 @@
+pub mod Woven
+pub mod Pushed
+pub mod Routing
+pub mod Taking
+pub mod Entered
+pub mod Fitting
+pub mod Adding
+pub mod Starting
+pub mod Passing
+pub mod Finding

@@ -1,0 +1,4 @@
+pub mod Tokens
+pub mod One
+pub mod Edges
+pub mod Shown

@@ -1,0 +1,4 @@
+pub mod Nets
+pub mod Laws
+pub mod Conditions
+pub mod StuckSets
