@@ -1,5 +1,5 @@
 -- What is answered early has its cause.
-use Rattle.std.proofs.Common.{◌≡◌, ℕ, Bool, true, false, List, Option, Some, refl, sym, subst, ◌∙◌}
+use Rattle.std.proofs.Common.{◌≡◌, ℕ, Bool, true, false, List, Option, Some, refl, sym, ap, subst, ◌∙◌}
 use Rattle.std.specs.Prelude.{Result, Err, codes, ◌&&◌}
 use Rattle.c_lexer.specs.declared.token.LexError.{LexError}
 use Rattle.c_tree.specs.declared.program.Mode.{Mode}
@@ -20,6 +20,10 @@ use Rattle.context_walk.specs.Found as walked
 use Rattle.contexts.specs.Outlines.{outlines, context_limit}
 use Rattle.first_form.specs.FirstForm.{first_nested}
 use Rattle.first_form.specs.Size.{has_first_text}
+use Rattle.flow_graph.specs.Flow.{HasFlow, IsFlowError}
+use Rattle.held_counts.specs.declared.HeldKind.{HeldKind}
+use Rattle.outline_pieces.specs.declared.error.FlowError.{FlowError}
+use Rattle.outline_pieces.specs.declared.error.FlowError.TheVariants as flow_error
 use Rattle.schedule_texts.specs.Schedules as schedules
 use Rattle.schedule_texts.specs.Inputs as inputs
 use Rattle.answers.specs.declared.refusal.Refusal.{Refusal}
@@ -29,12 +33,11 @@ use Rattle.answers.specs.declared.status.Status.TheVariants as status
 use Rattle.answers.specs.Answered.{Answered, telling}
 use Rattle.answers.specs.Causes.{Causes, CauseOf}
 use Rattle.answers.specs.Refusing.{Declines, Ends, RefusedAs, LimitedAs}
-use Rattle.answers.specs.Reasons.{line_of, reason_of, reason_of_rule, name_of_count}
-use Rattle.answers.specs.Lines.{not_built_line}
+use Rattle.answers.specs.Reasons.{line_of, reason_of, reason_of_rule, reason_of_held, name_of_count}
+use Rattle.answers.specs.Lines.{not_built_line, refused_line}
 use Rattle.answers.specs.Programs as programs
 use Rattle.answers.specs.Programs.{SpellsFormed, flaws}
 use Rattle.answers.specs.Instrument as instrument
-use Rattle.answers.specs.Instrument.{IsResolved}
 use Rattle.answers.specs.Run as run
 use Rattle.answers.specs.Run.{Texts, schedule_flaws, input_flaws, status_of, traced_answer}
 use Rattle.answers.specs.Traced.{trace_text}
@@ -139,12 +142,12 @@ pub and_first : (x y : Bool) → (x && y) ≡ true → x ≡ true
 and_first true y e = refl
 and_first false y e = absurd cc
 
-pub nested_at : (name bytes : List ℕ) (r : Refusal) (p : lined.Program) (built : Bool) (found : Option ℕ) (line : ℕ) → SpellsFormed Source bytes p → IsResolved p
+pub nested_at : (name bytes : List ℕ) (r : Refusal) (p : lined.Program) (built : Bool) (found : Option ℕ) (line : ℕ) → SpellsFormed Source bytes p → HasFlow p
     → built ≡ has_first_text (bare_program p) → built ≡ true → found ≡ first_nested p → found ≡ Some line
     → RefusedAs r name line (codes "lock while a mutex is held") → Declines (instrument.causes name bytes) r
-nested_at name bytes (Told a) p built found line spells resolved same first found_is some so =
-    rw so (instrument.Refuses.nested line (record { program = p; spells = spells; resolved = resolved; first_form = sym same ∙ first; nested = sym found_is ∙ some }) refl)
-nested_at name bytes Memory p built found line spells resolved same first found_is some so = tt
+nested_at name bytes (Told a) p built found line spells flow same first found_is some so =
+    rw so (instrument.Refuses.nested line (record { program = p; spells = spells; flow = flow; first_form = sym same ∙ first; nested = sym found_is ∙ some }) refl)
+nested_at name bytes Memory p built found line spells flow same first found_is some so = tt
 
 pub refused_so : (p : lined.Program) (e f : ContextError) → walked.IsRefusal e (outlines p) → e ≡ f → walked.IsRefusal f (outlines p)
 refused_so p e f x same = subst (λ (z : ContextError). walked.IsRefusal z (outlines p)) same x
@@ -158,6 +161,20 @@ pub many_contexts : (name bytes : List ℕ) (r : Refusal) (p : lined.Program) �
     → LimitedAs r name (codes "contexts") context_limit → Declines (instrument.causes name bytes) r
 many_contexts name bytes (Told a) p spells walk so = rw so (instrument.Limits.contexts (record { program = p; spells = spells; many = walk }) refl)
 many_contexts name bytes Memory p spells walk so = tt
+
+pub flow_error_so : (p : lined.Program) (e f : FlowError) → IsFlowError p e → e ≡ f → IsFlowError p f
+flow_error_so p e f x same = subst (λ (z : FlowError). IsFlowError p z) same x
+
+pub many_points : (name bytes : List ℕ) (r : Refusal) (p : lined.Program) → SpellsFormed Source bytes p → IsFlowError p flow_error.TooManyPoints
+    → LimitedAs r name (codes "points") 4096 → Declines (instrument.causes name bytes) r
+many_points name bytes (Told a) p spells error so = rw so (instrument.Limits.points (record { program = p; spells = spells; error = error }) refl)
+many_points name bytes Memory p spells error so = tt
+
+pub held_at : (name bytes : List ℕ) (r : Refusal) (p : lined.Program) (kind : HeldKind) (line : ℕ) (reason : List ℕ) → SpellsFormed Source bytes p
+    → IsFlowError p (flow_error.Held kind line) → reason ≡ reason_of_held kind → RefusedAs r name line reason → Declines (instrument.causes name bytes) r
+held_at name bytes (Told a) p kind line reason spells error says so =
+    rw so (instrument.Refuses.held kind line (record { program = p; spells = spells; error = error }) (ap (refused_line name line) says))
+held_at name bytes Memory p kind line reason spells error says so = tt
 
 -- ---- `run`
 

@@ -6,6 +6,8 @@ use Rattle.c_rules.specs.declared.rule.Rule.{Rule}
 use Rattle.c_rules.specs.declared.rule.Rule.TheVariants as r
 use Rattle.c_rules.specs.declared.rule.Count.{Count}
 use Rattle.c_rules.specs.declared.rule.Count.TheVariants as c
+use Rattle.held_counts.specs.declared.HeldKind.{HeldKind}
+use Rattle.held_counts.specs.declared.HeldKind.TheVariants as h
 
 -- ---- by the lexer
 
@@ -43,6 +45,16 @@ reason_of_rule r.JoinNotFixed = codes "thread not joined at a fixed place"
 reason_of_rule r.ArgNotConstant = codes "thread argument is not constant"
 reason_of_rule r.InitLate = codes "object initialised too late"
 reason_of_rule r.IndexRange = codes "index out of range"
+
+-- ---- by what is held
+
+abbrev pub reason_of_held : HeldKind → List ℕ
+reason_of_held h.Relock = codes "mutex is locked again by its holder"
+reason_of_held h.NotHeld = codes "released but not held"
+reason_of_held h.HeldDiffers = codes "held locks differ where paths meet"
+reason_of_held h.HeldAtEnd = codes "held at the end of a thread"
+reason_of_held h.HeldAtJoin = codes "held at a join"
+reason_of_held h.WaitNotHeld = codes "wait without its mutex"
 
 -- ---- what is counted, as a limit names it
 

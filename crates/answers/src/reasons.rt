@@ -1,9 +1,10 @@
 // Why a text is refused, in words.
 ghost use Rattle.std.specs.Prelude.{◌≡◌};
-ghost use Rattle.answers.specs.Reasons.{line_of, reason_of, reason_of_rule, name_of_count};
+ghost use Rattle.answers.specs.Reasons.{line_of, reason_of, reason_of_rule, reason_of_held, name_of_count};
 
 use c_check::{Count, Rule};
 use c_lexer::LexError;
+use held_counts::HeldKind;
 
 /// The line of a refusal.
 pub fn line_of(error: LexError) -> u32
@@ -53,6 +54,20 @@ pub fn reason_of_rule(rule: Rule) -> &'static str
         Rule::ArgNotConstant => "thread argument is not constant",
         Rule::InitLate => "object initialised too late",
         Rule::IndexRange => "index out of range",
+    }
+}
+
+/// The reason of a refusal of what is held.
+pub fn reason_of_held(kind: HeldKind) -> &'static str
+    ensures { result.now ≡ reason_of_held kind }
+{
+    match kind {
+        HeldKind::Relock => "mutex is locked again by its holder",
+        HeldKind::NotHeld => "released but not held",
+        HeldKind::HeldDiffers => "held locks differ where paths meet",
+        HeldKind::HeldAtEnd => "held at the end of a thread",
+        HeldKind::HeldAtJoin => "held at a join",
+        HeldKind::WaitNotHeld => "wait without its mutex",
     }
 }
 

@@ -2,7 +2,9 @@
 
 use crate::calls::{Call, Files, judge_call};
 use crate::changes::{Sample, judge_changes};
+use crate::flows::{judge_flow, judge_points};
 use crate::items::{fields, is_inner, is_silent, worded};
+use crate::moves::judge_moves;
 use crate::report::Report;
 use crate::resolving::judge_contexts;
 use crate::runs::judge_run;
@@ -141,6 +143,28 @@ impl Scene {
         Ok(true)
     }
 
+    /// Whether a program has points, or which points it has. Whether the row is one.
+    fn judge_control(
+        &self,
+        alloc: Global,
+        word: &str,
+        rest: &str,
+        block: &str,
+        report: &mut Report,
+    ) -> Result<bool, AllocError> {
+        let (text, wanted) = fields(rest);
+        let wanted = wanted.unwrap_or("");
+        let Some(text) = self.framed(alloc, text)? else {
+            return Ok(false);
+        };
+        if word == "flow" {
+            judge_flow(alloc, text.as_slice(), rest, wanted, report)?;
+        } else {
+            judge_points(alloc, text.as_slice(), rest, wanted, block, report)?;
+        }
+        Ok(true)
+    }
+
     /// What the parser answers where a token is changed. Whether the row is one.
     fn judge_each(
         &self,
@@ -225,6 +249,22 @@ impl Scene {
         judge_run(alloc, &self.names, text.as_slice(), input, block, report)
     }
 
+    /// A run of a program beside its points. Whether the row is one.
+    fn judge_standing(
+        &self,
+        alloc: Global,
+        rest: &str,
+        block: &str,
+        report: &mut Report,
+    ) -> Result<bool, AllocError> {
+        let (text, input) = fields(rest);
+        let Some(text) = self.framed(alloc, text)? else {
+            return Ok(false);
+        };
+        let input = input.unwrap_or("");
+        judge_moves(alloc, text.as_slice(), input, block, report)
+    }
+
     /// The trace of a program by a schedule on an input. Whether the row is one.
     fn judge_schedule(
         &self,
@@ -301,9 +341,11 @@ impl Scene {
             "source" => self.judge_source(alloc, rest, report),
             "each" => self.judge_each(alloc, rest, report),
             "contexts" => self.judge_places(alloc, rest, report),
+            "flow" | "points" => self.judge_control(alloc, word, rest, block, report),
             "table" => self.judge_numbers(alloc, rest, block, report),
             "schedule" | "input" => self.judge_events_text(alloc, word, rest, report),
             "run" => self.judge_events(alloc, rest, block, report),
+            "moves" => self.judge_standing(alloc, rest, block, report),
             "trace" => self.judge_schedule(alloc, rest, block, report),
             "call" => self.judge_tool(alloc, rest, report),
             _ => Ok(false),

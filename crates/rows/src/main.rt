@@ -20,6 +20,9 @@
 //! run TEXT [~ NUMBER ..]                 a run with this input, a line for each event and for what is seen then
 //! trace TEXT ~ TEXT ~ TEXT               the trace of a program by a schedule on an input: the lines, and how it ended
 //! contexts TEXT ~ COUNT [NAME COUNT ..]  how many contexts a program has, and each of its functions that has more than one
+//! flow TEXT ~ ANSWER                     that a program has points, or why it has none
+//! points TEXT ~ COUNT                    how many points a program has, and a line for each, if there are lines
+//! moves TEXT [~ NUMBER ..]               a run beside the points, a line for each event: what came, and where each thread may stand
 //! file NAME ~ TEXT                       a file of the host in memory
 //! call WORDS ~ STATUS ~ OUT ~ ERR [~ ROOM [~ FAILS]]   how the tool ends, and what it writes; two quotes are an empty word
 //! ```
@@ -29,13 +32,16 @@
 
 mod calls;
 mod changes;
+mod flows;
 mod items;
 mod judging;
+mod moves;
 mod report;
 mod resolving;
 mod runs;
 mod said;
 mod schedules;
+mod standing;
 mod tables;
 mod texts;
 mod traces;

@@ -17,7 +17,7 @@ fn number(word: &str) -> u32 {
 }
 
 /// The event that words say, if they say one.
-fn event(word: &str, words: &str) -> Option<Event> {
+pub fn event(word: &str, words: &str) -> Option<Event> {
     let (thread, other) = worded(words);
     let kind = match word {
         "go" => EventKind::Go,
@@ -169,7 +169,7 @@ fn judge_lines(
 }
 
 /// The numbers of words.
-fn inputs(alloc: Global, words: &str) -> Result<Values, AllocError> {
+pub fn inputs(alloc: Global, words: &str) -> Result<Values, AllocError> {
     let mut input = Values::new(alloc);
     for word in words.split_whitespace() {
         input.push(word.parse::<i32>().unwrap_or(0))?;
